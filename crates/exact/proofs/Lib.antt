@@ -1,0 +1,17 @@
+pub mod Naturals
+pub mod Integers
+pub mod Sterbenz
+pub mod ErrorFree
+pub mod Signs
+pub mod Values
+pub mod Scaled
+pub mod Sums
+pub mod Orders
+pub mod Roundings
+pub mod Remainders
+pub mod Halves
+pub mod Unique
+pub mod Commutes
+pub mod Congruent
+pub mod TwoSum
+pub mod Products

@@ -1,0 +1,4 @@
+pub mod Rounded
+pub mod Values
+pub mod Plain
+pub mod Congruent
