@@ -1,0 +1,4 @@
+pub mod Places
+pub mod Powers
+pub mod AnnexF
+pub mod Reciprocals
