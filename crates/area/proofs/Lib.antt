@@ -1,0 +1,5 @@
+mod Congruence
+mod Reducing
+mod Steps
+pub mod Law
+pub mod Examples

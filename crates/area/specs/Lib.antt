@@ -1,0 +1,3 @@
+pub mod Reduction
+pub mod AreaLaw
+pub mod Examples

@@ -1,0 +1,4 @@
+pub mod Closing
+pub mod Feeding
+pub mod Laws
+pub mod Examples
