@@ -1,0 +1,5 @@
+pub mod Canonical
+pub mod Paths
+pub mod AreaTerm
+pub mod Inverse
+pub mod MirrorLaw
