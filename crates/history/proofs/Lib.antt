@@ -1,0 +1,11 @@
+pub mod Outcomes
+pub mod Drawn
+pub mod RowEdits
+pub mod Measures
+pub mod Pasts
+pub mod Undoing
+pub mod Redrawn
+pub mod Following
+pub mod Law
+pub mod Replaying
+pub mod TakeBackCosts

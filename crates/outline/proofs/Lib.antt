@@ -1,0 +1,4 @@
+mod Summing
+mod Replaying
+mod WholeRule
+mod Examples

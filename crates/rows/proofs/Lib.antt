@@ -1,0 +1,2 @@
+mod Rotations
+pub mod Changes

@@ -1,0 +1,3 @@
+pub mod Redrawing
+pub mod Noting
+pub mod Costing
