@@ -1,0 +1,7 @@
+mod Examples
+mod Exits
+mod Fields
+pub mod Numbers
+mod Reading
+mod RoundTrip
+mod Writing
