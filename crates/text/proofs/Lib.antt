@@ -1,0 +1,3 @@
+mod Fronts
+mod Digits
+pub mod Lines
