@@ -1,5 +1,7 @@
 // The last step of a polygon's area: the rounded sum of its edge areas, together with the number
 // of times its edges cross the prime meridian, becomes the area on the whole surface.
+#![tactic(auto)]
+
 ghost use Rattle.std.specs.Prelude.{◌≡◌};
 ghost use Rattle.area.specs.AreaLaw.{AreaLaw};
 ghost use Rattle.area.specs.Reduction.{is_odd, crossed, turned, placed, reduced_area};

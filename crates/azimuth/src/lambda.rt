@@ -41,7 +41,7 @@ fn steer(e: Ends, z: Azimuth) -> Azimuth
 }
 
 fn epsilon_of<F: FunctionSet>(set: &F, shape: &Ellipsoid, e: Ends, z: Azimuth) -> f64
-    ensures { result ≡ Definitions.epsilon_of (funcs set.now) shape.now e z }
+    ensures { result ≡ Definitions.epsilon_of (F.funcs set.now) shape.now e z }
 {
     let calp0 = set.hypot(z.calp, z.salp * e.sbet1);
     expansion_parameter(sq(calp0) * shape.ep2)
@@ -81,7 +81,7 @@ fn cos_arrival(e: Ends, z: Azimuth) -> f64
 }
 
 fn arc_between<F: FunctionSet>(set: &F, e: Ends, z: Azimuth, z2: Azimuth) -> Arc
-    ensures { result ≡ Definitions.arc_between (funcs set.now) e z z2 }
+    ensures { result ≡ Definitions.arc_between (F.funcs set.now) e z z2 }
 {
     let (ssig1, csig1) = norm(set, e.sbet1, z.calp * e.cbet1);
     let (ssig2, csig2) = norm(set, e.sbet2, z2.calp * e.cbet2);
@@ -90,7 +90,7 @@ fn arc_between<F: FunctionSet>(set: &F, e: Ends, z: Azimuth, z2: Azimuth) -> Arc
 
 // The spherical longitude difference ω12 less the wanted λ12.
 fn eta<F: FunctionSet>(set: &F, e: Ends, d: Difference, z: Azimuth, z2: Azimuth) -> f64
-    ensures { result ≡ Definitions.eta_of (funcs set.now) e d z z2 }
+    ensures { result ≡ Definitions.eta_of (F.funcs set.now) e d z z2 }
 {
     let salp0 = z.salp * e.cbet1;
     let somg1 = salp0 * e.sbet1;
@@ -144,7 +144,7 @@ fn lambda_from<F: FunctionSet>(
     z: Azimuth,
     diffp: bool,
 ) -> Lambda
-    ensures { result ≡ Definitions.lambda_from (funcs set.now) shape.now e d z diffp }
+    ensures { result ≡ Definitions.lambda_from (F.funcs set.now) shape.now e d z diffp }
 {
     let alp2 = Azimuth {
         salp: sin_arrival(e, z),
@@ -174,7 +174,7 @@ pub fn _Lambda12<F: FunctionSet>(
     z: Azimuth,
     diffp: bool,
 ) -> Lambda
-    ensures { result ≡ Definitions.lambda12 (funcs set.now) shape.now e d z diffp }
+    ensures { result ≡ Definitions.lambda12 (F.funcs set.now) shape.now e d z diffp }
 {
     lambda_from(set, shape, e, d, steer(e, z), diffp)
 }

@@ -74,7 +74,7 @@ fn narrow(i: u8, v: f64, z: Azimuth, k: Bracket) -> Bracket
 }
 
 fn turn_by<F: FunctionSet>(set: &F, z: Azimuth, angle: f64) -> Azimuth
-    ensures { result ≡ Definitions.turned (funcs set.now) z angle }
+    ensures { result ≡ Definitions.turned (F.funcs set.now) z angle }
 {
     let sine = set.sin(angle);
     let cosine = set.cos(angle);
@@ -85,7 +85,7 @@ fn turn_by<F: FunctionSet>(set: &F, z: Azimuth, angle: f64) -> Azimuth
 }
 
 fn unit_of<F: FunctionSet>(set: &F, z: Azimuth) -> Azimuth
-    ensures { result ≡ Definitions.unit (funcs set.now) z }
+    ensures { result ≡ Definitions.unit (F.funcs set.now) z }
 {
     let (salp, calp) = norm(set, z.salp, z.calp);
     Azimuth { salp, calp }
@@ -93,7 +93,7 @@ fn unit_of<F: FunctionSet>(set: &F, z: Azimuth) -> Azimuth
 
 // The middle of the bracket.
 fn middle_of<F: FunctionSet>(set: &F, k: Bracket) -> Azimuth
-    ensures { result ≡ Definitions.middle (funcs set.now) k }
+    ensures { result ≡ Definitions.middle (F.funcs set.now) k }
 {
     let salp = (k.alp1a.salp + k.alp1b.salp) / 2.0;
     let calp = (k.alp1a.calp + k.alp1b.calp) / 2.0;
@@ -109,7 +109,7 @@ fn is_closed(k: Bracket, z: Azimuth) -> bool
 }
 
 fn bisect<F: FunctionSet>(set: &F, k: Bracket, last: Lambda) -> Search
-    ensures { result ≡ Definitions.bisected (funcs set.now) k last }
+    ensures { result ≡ Definitions.bisected (F.funcs set.now) k last }
 {
     let alp1 = middle_of(set, k);
     let tripb = is_closed(k, alp1);
@@ -125,7 +125,7 @@ fn bisect<F: FunctionSet>(set: &F, k: Bracket, last: Lambda) -> Search
 // The next guess by Newton's step where the derivative is positive and the step leads to the east,
 // else by bisection.
 fn step_on<F: FunctionSet>(set: &F, i: u8, s: Search, last: Lambda, k: Bracket) -> Search
-    ensures { result ≡ Definitions.next (funcs set.now) i s last k }
+    ensures { result ≡ Definitions.next (F.funcs set.now) i s last k }
 {
     if i < MAXIT1 && last.dlam12 > 0.0 {
         let dalp1 = -last.lam12 / last.dlam12;
@@ -147,7 +147,7 @@ fn step_on<F: FunctionSet>(set: &F, i: u8, s: Search, last: Lambda, k: Bracket) 
 
 // What is done with the i-th evaluation.
 fn judge<F: FunctionSet>(set: &F, i: u8, s: Search, last: Lambda) -> Outcome
-    ensures { result ≡ Definitions.judged (funcs set.now) i s last }
+    ensures { result ≡ Definitions.judged (F.funcs set.now) i s last }
 {
     if has_converged(s, last.lam12) {
         let Search {
@@ -177,7 +177,7 @@ fn one_turn<F: FunctionSet>(
     i: u8,
     s: Search,
 ) -> Outcome
-    ensures { result ≡ Definitions.one_turn (funcs set.now) shape.now e d i s }
+    ensures { result ≡ Definitions.one_turn (F.funcs set.now) shape.now e d i s }
 {
     let last = _Lambda12(set, shape, e, d, s.alp1, i < MAXIT1);
     judge(set, i, s, last)
@@ -232,7 +232,7 @@ pub fn solve_azimuth<F: FunctionSet>(
     d: Difference,
     start: Azimuth,
 ) -> Found
-    ensures value { result ≡ Definitions.solved_azimuth (funcs set.now) shape.now e d start }
+    ensures value { result ≡ Definitions.solved_azimuth (F.funcs set.now) shape.now e d start }
     ensures few { result.evaluations ≤ 83 }
 {
     let mut s = begin(start);

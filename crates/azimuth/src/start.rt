@@ -74,7 +74,7 @@ fn dn_mean(shape: &Ellipsoid, e: Ends) -> f64
 }
 
 fn turn_of<F: FunctionSet>(set: &F, shape: &Ellipsoid, e: Ends, d: Difference) -> Turn
-    ensures { result ≡ Definitions.turn_of (funcs set.now) shape.now e d }
+    ensures { result ≡ Definitions.turn_of (F.funcs set.now) shape.now e d }
 {
     if is_short_line(e, d) {
         let dnm = dn_mean(shape, e);
@@ -124,7 +124,7 @@ fn departure(e: Ends, t: Turn) -> Azimuth
 
 // The great circle's azimuth at the second point.
 fn arrival_at<F: FunctionSet>(set: &F, e: Ends, t: Turn) -> Azimuth
-    ensures { result ≡ Definitions.arriving (funcs set.now) e t }
+    ensures { result ≡ Definitions.arriving (F.funcs set.now) e t }
 {
     let versine = if t.comg12 >= 0.0 {
         sq(t.somg12) / (1.0 + t.comg12)
@@ -145,7 +145,7 @@ fn cos_arc(e: Ends, t: Turn) -> f64
 
 // An azimuth of length 1; where its sine is not positive, due east.
 fn settle<F: FunctionSet>(set: &F, z: Azimuth) -> Azimuth
-    ensures { result ≡ Definitions.settled (funcs set.now) z }
+    ensures { result ≡ Definitions.settled (F.funcs set.now) z }
 {
     if z.salp > 0.0 || z.salp.is_nan() {
         let (salp, calp) = norm(set, z.salp, z.calp);
@@ -160,7 +160,7 @@ fn settle<F: FunctionSet>(set: &F, z: Azimuth) -> Azimuth
 
 // On an oblate ellipsoid x goes by the longitude and y by the latitude.
 fn oblate_scaled<F: FunctionSet>(set: &F, shape: &Ellipsoid, e: Ends, d: Difference) -> Scaled
-    ensures { result ≡ Definitions.oblate (funcs set.now) shape.now e d }
+    ensures { result ≡ Definitions.oblate (F.funcs set.now) shape.now e d }
 {
     let eps = expansion_parameter(sq(e.sbet1) * shape.ep2);
     let lamscale = shape.f * e.cbet1 * _A3f(shape, eps) * PI;
@@ -174,7 +174,7 @@ fn oblate_scaled<F: FunctionSet>(set: &F, shape: &Ellipsoid, e: Ends, d: Differe
 
 // The reduced length of the meridian arc over the pole to the second point's latitude.
 fn meridian_lengths<F: FunctionSet>(set: &F, shape: &Ellipsoid, e: Ends) -> Lengths
-    ensures { result ≡ Definitions.meridian_lengths (funcs set.now) shape.now e }
+    ensures { result ≡ Definitions.meridian_lengths (F.funcs set.now) shape.now e }
 {
     let bet12a = set.atan2(sin_sum(e), e.cbet2 * e.cbet1 - e.sbet2 * e.sbet1);
     let arc = Arc {
@@ -188,7 +188,7 @@ fn meridian_lengths<F: FunctionSet>(set: &F, shape: &Ellipsoid, e: Ends) -> Leng
 }
 
 fn prolate_at<F: FunctionSet>(set: &F, shape: &Ellipsoid, e: Ends, d: Difference, x: f64) -> Scaled
-    ensures { result ≡ Definitions.prolate_at (funcs set.now) shape.now e d x }
+    ensures { result ≡ Definitions.prolate_at (F.funcs set.now) shape.now e d x }
 {
     let betscale = if x < -0.01 {
         sin_sum(e) / x
@@ -206,7 +206,7 @@ fn prolate_at<F: FunctionSet>(set: &F, shape: &Ellipsoid, e: Ends, d: Difference
 
 // On a prolate ellipsoid x goes by the latitude and y by the longitude.
 fn prolate_scaled<F: FunctionSet>(set: &F, shape: &Ellipsoid, e: Ends, d: Difference) -> Scaled
-    ensures { result ≡ Definitions.prolate (funcs set.now) shape.now e d }
+    ensures { result ≡ Definitions.prolate (F.funcs set.now) shape.now e d }
 {
     let l = meridian_lengths(set, shape, e);
     let x = -1.0 + l.m12b / (e.cbet1 * e.cbet2 * l.m0 * PI);
@@ -214,7 +214,7 @@ fn prolate_scaled<F: FunctionSet>(set: &F, shape: &Ellipsoid, e: Ends, d: Differ
 }
 
 fn scaled_of<F: FunctionSet>(set: &F, shape: &Ellipsoid, e: Ends, d: Difference) -> Scaled
-    ensures { result ≡ Definitions.scaled_of (funcs set.now) shape.now e d }
+    ensures { result ≡ Definitions.scaled_of (F.funcs set.now) shape.now e d }
 {
     if shape.f >= 0.0 {
         oblate_scaled(set, shape, e, d)
@@ -255,7 +255,7 @@ fn astroid_omega(shape: &Ellipsoid, s: Scaled, k: f64) -> f64
 }
 
 fn omega_azimuth<F: FunctionSet>(set: &F, e: Ends, omg12a: f64) -> Azimuth
-    ensures { result ≡ Definitions.omega_azimuth (funcs set.now) e omg12a }
+    ensures { result ≡ Definitions.omega_azimuth (F.funcs set.now) e omg12a }
 {
     let somg12 = set.sin(omg12a);
     let comg12 = -set.cos(omg12a);
@@ -267,7 +267,7 @@ fn omega_azimuth<F: FunctionSet>(set: &F, e: Ends, omg12a: f64) -> Azimuth
 
 // The azimuth at the first point for a second point near the antipode.
 fn antipodal_azimuth<F: FunctionSet>(set: &F, shape: &Ellipsoid, e: Ends, s: Scaled) -> Azimuth
-    ensures { result ≡ Definitions.antipodal (funcs set.now) shape.now e s }
+    ensures { result ≡ Definitions.antipodal (F.funcs set.now) shape.now e s }
 {
     if s.y > -TOL1 && s.x > -1.0 - XTHRESH {
         return axis_azimuth(shape, s);
@@ -291,7 +291,7 @@ fn long_azimuth<F: FunctionSet>(
     d: Difference,
     t: Turn,
 ) -> Azimuth
-    ensures { result ≡ Definitions.long_azimuth (funcs set.now) shape.now e d t }
+    ensures { result ≡ Definitions.long_azimuth (F.funcs set.now) shape.now e d t }
 {
     let z = departure(e, t);
     if is_far(shape, e, set.hypot(z.salp, z.calp), cos_arc(e, t)) {
@@ -301,7 +301,7 @@ fn long_azimuth<F: FunctionSet>(
 }
 
 fn long_start<F: FunctionSet>(set: &F, shape: &Ellipsoid, e: Ends, d: Difference, t: Turn) -> Start
-    ensures { result ≡ Definitions.long_start (funcs set.now) shape.now e d t }
+    ensures { result ≡ Definitions.long_start (F.funcs set.now) shape.now e d t }
 {
     let alp1 = settle(set, long_azimuth(set, shape, e, d, t));
     let alp2 = Azimuth {
@@ -317,7 +317,7 @@ fn long_start<F: FunctionSet>(set: &F, shape: &Ellipsoid, e: Ends, d: Difference
 }
 
 fn short_start<F: FunctionSet>(set: &F, e: Ends, t: Turn) -> Start
-    ensures { result ≡ Definitions.short_start (funcs set.now) e t }
+    ensures { result ≡ Definitions.short_start (F.funcs set.now) e t }
 {
     let z = departure(e, t);
     let sig12 = set.atan2(set.hypot(z.salp, z.calp), cos_arc(e, t));
@@ -331,7 +331,7 @@ fn short_start<F: FunctionSet>(set: &F, e: Ends, t: Turn) -> Start
 
 // The start of the inverse problem.
 pub fn _InverseStart<F: FunctionSet>(set: &F, shape: &Ellipsoid, e: Ends, d: Difference) -> Start
-    ensures { result ≡ Definitions.inverse_start (funcs set.now) shape.now e d }
+    ensures { result ≡ Definitions.inverse_start (F.funcs set.now) shape.now e d }
 {
     let t = turn_of(set, shape, e, d);
     let z = departure(e, t);

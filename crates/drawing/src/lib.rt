@@ -1,4 +1,6 @@
 // Drawing a packed sheet: its edits are made on an outline, one by one, and the outline is measured.
+#![tactic(auto)]
+
 mod sheet;
 mod strokes;
 

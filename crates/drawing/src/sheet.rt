@@ -40,10 +40,10 @@ fn draw_on<S: Surface + Drop>(
     stations: &mut [Station],
     edits: &mut [EditRecord],
 ) -> Result<Drawing, SheetFault>
-    ensures answer { result ≡ (sheet_on stations.old edits.old (edges surface) (whole surface) bytes.now header).answer }
-    ensures stations { stations.new ≡ (sheet_on stations.old edits.old (edges surface) (whole surface) bytes.now header).stations }
-    ensures edits { edits.new ≡ (sheet_on stations.old edits.old (edges surface) (whole surface) bytes.now header).edits }
-    ensures fresh { IfOk result (λ d. Fresh (edges surface) (whole surface) (lengths_of stations.old edits.old) bytes.now header d) }
+    ensures answer { result ≡ (sheet_on stations.old edits.old (S.edges surface) (S.whole surface) bytes.now header).answer }
+    ensures stations { stations.new ≡ (sheet_on stations.old edits.old (S.edges surface) (S.whole surface) bytes.now header).stations }
+    ensures edits { edits.new ≡ (sheet_on stations.old edits.old (S.edges surface) (S.whole surface) bytes.now header).edits }
+    ensures fresh { IfOk result (λ d. Fresh (S.edges surface) (S.whole surface) (lengths_of stations.old edits.old) bytes.now header d) }
 {
     let mut outline = in_header(Outline::open(
         surface,

@@ -53,10 +53,10 @@ pub fn draw_edit<S: Surface>(
     number: u16,
     at: usize,
 ) -> Result<(Cost, usize), SheetFault>
-    ensures answer { result ≡ (edit_drawn (edges outline.old.surface) (whole outline.old.surface) bytes.now number at outline.old.frame stations.old edits.old).answer }
-    ensures frame { outline.new.frame ≡ (edit_drawn (edges outline.old.surface) (whole outline.old.surface) bytes.now number at outline.old.frame stations.old edits.old).frame }
-    ensures stations { stations.new ≡ (edit_drawn (edges outline.old.surface) (whole outline.old.surface) bytes.now number at outline.old.frame stations.old edits.old).stations }
-    ensures edits { edits.new ≡ (edit_drawn (edges outline.old.surface) (whole outline.old.surface) bytes.now number at outline.old.frame stations.old edits.old).edits }
+    ensures answer { result ≡ (edit_drawn (S.edges outline.old.surface) (S.whole outline.old.surface) bytes.now number at outline.old.frame stations.old edits.old).answer }
+    ensures frame { outline.new.frame ≡ (edit_drawn (S.edges outline.old.surface) (S.whole outline.old.surface) bytes.now number at outline.old.frame stations.old edits.old).frame }
+    ensures stations { stations.new ≡ (edit_drawn (S.edges outline.old.surface) (S.whole outline.old.surface) bytes.now number at outline.old.frame stations.old edits.old).stations }
+    ensures edits { edits.new ≡ (edit_drawn (S.edges outline.old.surface) (S.whole outline.old.surface) bytes.now number at outline.old.frame stations.old edits.old).edits }
     ensures surface { outline.new.surface ≡ outline.old.surface }
     ensures few { IfOk result (λ p. Affordable p.0) }
 {
@@ -81,10 +81,10 @@ pub fn draw_edits<S: Surface>(
     bytes: &[u8],
     count: u16,
 ) -> Result<Cost, SheetFault>
-    ensures answer { result ≡ (edits_drawn (edges outline.old.surface) (whole outline.old.surface) bytes.now count 0 24 free outline.old.frame stations.old edits.old).answer }
-    ensures frame { outline.new.frame ≡ (edits_drawn (edges outline.old.surface) (whole outline.old.surface) bytes.now count 0 24 free outline.old.frame stations.old edits.old).frame }
-    ensures stations { stations.new ≡ (edits_drawn (edges outline.old.surface) (whole outline.old.surface) bytes.now count 0 24 free outline.old.frame stations.old edits.old).stations }
-    ensures edits { edits.new ≡ (edits_drawn (edges outline.old.surface) (whole outline.old.surface) bytes.now count 0 24 free outline.old.frame stations.old edits.old).edits }
+    ensures answer { result ≡ (edits_drawn (S.edges outline.old.surface) (S.whole outline.old.surface) bytes.now count 0 24 free outline.old.frame stations.old edits.old).answer }
+    ensures frame { outline.new.frame ≡ (edits_drawn (S.edges outline.old.surface) (S.whole outline.old.surface) bytes.now count 0 24 free outline.old.frame stations.old edits.old).frame }
+    ensures stations { stations.new ≡ (edits_drawn (S.edges outline.old.surface) (S.whole outline.old.surface) bytes.now count 0 24 free outline.old.frame stations.old edits.old).stations }
+    ensures edits { edits.new ≡ (edits_drawn (S.edges outline.old.surface) (S.whole outline.old.surface) bytes.now count 0 24 free outline.old.frame stations.old edits.old).edits }
     ensures surface { outline.new.surface ≡ outline.old.surface }
     ensures few { IfOk result (λ cost. (cost.edges ≤ 131070) × (cost.evaluations ≤ 10878810)) }
 {

@@ -1,5 +1,7 @@
 // The WGS84 ellipsoid over the series set: its constants, which need not be reckoned again, its edges
 // and its whole area.
+#![tactic(auto)]
+
 ghost use Rattle.std.specs.Prelude.{◌≡◌};
 ghost use Rattle.functions.specs.Series.{series};
 ghost use Rattle.ellipsoid.specs.Ellipsoids.{whole_of};

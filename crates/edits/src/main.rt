@@ -1,5 +1,7 @@
 // Draws an outline by calls, one a line of standard input, and tells the answer to each. Beside the
 // figures of a measure stand those of a new polygon that is fed the standing points alone.
+#![tactic(auto)]
+
 use anyhow::anyhow;
 use area::Winding;
 use functions::SeriesSet;

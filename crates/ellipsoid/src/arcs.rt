@@ -26,7 +26,7 @@ pub struct Arc {
 
 // The arc between two ends.
 pub fn arc_of<F: FunctionSet>(set: &F, ssig1: f64, csig1: f64, ssig2: f64, csig2: f64) -> Arc
-    ensures { result ≡ Arcs.arc_of (funcs set.now) ssig1 csig1 ssig2 csig2 }
+    ensures { result ≡ Arcs.arc_of (F.funcs set.now) ssig1 csig1 ssig2 csig2 }
 {
     let sine = larger(csig1 * ssig2 - ssig1 * csig2, 0.0);
     let sig12 = set.atan2(sine, csig1 * csig2 + ssig1 * ssig2);

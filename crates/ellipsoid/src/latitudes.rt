@@ -29,8 +29,8 @@ pub struct Difference {
 
 // Sine and cosine of the reduced latitude; at a pole the cosine is tiny rather than 0.
 fn reduced<F: FunctionSet>(set: &F, shape: &Ellipsoid, lat: f64) -> (f64, f64)
-    ensures sine { result.0 ≡ Definitions.sin_reduced (funcs set.now) shape.now lat }
-    ensures cosine { result.1 ≡ Definitions.cos_reduced (funcs set.now) shape.now lat }
+    ensures sine { result.0 ≡ Definitions.sin_reduced (F.funcs set.now) shape.now lat }
+    ensures cosine { result.1 ≡ Definitions.cos_reduced (F.funcs set.now) shape.now lat }
 {
     let (s, c) = sincosd(set, lat);
     let (sbet, cbet) = norm(set, s * shape.f1, c);
@@ -67,7 +67,7 @@ fn matched_cosine(sbet1: f64, cbet1: f64, sbet2: f64, cbet2: f64) -> f64
 
 // The ends of a geodesic between two latitudes.
 pub fn ends_of<F: FunctionSet>(set: &F, shape: &Ellipsoid, lat1: f64, lat2: f64) -> Ends
-    ensures { result ≡ Definitions.ends_of (funcs set.now) shape.now lat1 lat2 }
+    ensures { result ≡ Definitions.ends_of (F.funcs set.now) shape.now lat1 lat2 }
 {
     let (sbet1, cbet1) = reduced(set, shape, lat1);
     let (s, c) = reduced(set, shape, lat2);
@@ -85,7 +85,7 @@ pub fn ends_of<F: FunctionSet>(set: &F, shape: &Ellipsoid, lat1: f64, lat2: f64)
 
 // The longitude difference of a canonical form.
 pub fn difference_of<F: FunctionSet>(set: &F, lon12: f64, lon12s: f64) -> Difference
-    ensures { result ≡ Definitions.difference_of (funcs set.now) lon12 lon12s }
+    ensures { result ≡ Definitions.difference_of (F.funcs set.now) lon12 lon12s }
 {
     let lam12 = lon12.to_radians();
     if lon12 > 90.0 {

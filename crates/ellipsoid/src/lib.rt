@@ -1,5 +1,7 @@
 // An ellipsoid of revolution: its constants, the expansions of its integrals, the ends of a geodesic
 // on the auxiliary sphere, and the lengths along an arc between them.
+#![tactic(auto)]
+
 pub mod arcs;
 pub mod capability;
 pub mod expansions;

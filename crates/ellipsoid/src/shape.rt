@@ -63,7 +63,7 @@ fn signed_eccentricity(f: f64) -> f64
 }
 
 fn area_ratio<F: FunctionSet>(set: &F, f: f64) -> f64
-    ensures { result ≡ area_ratio (funcs set.now) f }
+    ensures { result ≡ area_ratio (F.funcs set.now) f }
 {
     let e2 = f * (2.0 - f);
     if e2 == 0.0 {
@@ -75,7 +75,7 @@ fn area_ratio<F: FunctionSet>(set: &F, f: f64) -> f64
 
 // The square of the radius of the sphere that has the same area.
 fn authalic<F: FunctionSet>(set: &F, a: f64, f: f64) -> f64
-    ensures { result ≡ c2_of (funcs set.now) a f }
+    ensures { result ≡ c2_of (F.funcs set.now) a f }
 {
     let b = a * (1.0 - f);
     (sq(a) + sq(b) * area_ratio(set, f)) / 2.0
@@ -91,7 +91,7 @@ fn short_arc(f: f64) -> f64
 impl Ellipsoid {
     // The ellipsoid of the equatorial radius a and the flattening f.
     pub fn new<F: FunctionSet>(set: &F, a: f64, f: f64) -> Ellipsoid
-        ensures { result ≡ Ellipsoids.ellipsoid (funcs set.now) a f }
+        ensures { result ≡ Ellipsoids.ellipsoid (F.funcs set.now) a f }
     {
         let n = f / (2.0 - f);
         let A3x = a3_coefficients(n);

@@ -4,7 +4,7 @@ use borrow.Author.Tests.{lt-leb}
 use Rattle.std.proofs.lemmas.Bool.{and_parts, cases_lt, cases_eq}
 use lib.Ieee.{Float, Format, nan, inf, fin, binary64, fits, odd, of_bits, of_fields, to_bits}
 use lib.Ieee.Exact.{HasValue, odd_sign}
-use lib.Ieee.Fits.{nan-fits, inf-fits, round-fits}
+use lib.Ieee.Fits.{nan-fits, inf-fits, round-fits, sqrt-fits}
 use lib.Ieee.Bits.{of_bits-fits, of_bits-to_bits}
 use lib.Ieee.Positive.{positive, positive_of_value}
 use Rattle.std.specs.Float.{sqrt, float_is_finite, is_sign_negative}
@@ -259,16 +259,6 @@ positive_plus (inf s) p = absurd p
 positive_plus (fin true m e) p = absurd p
 positive_plus (fin false m e) p = refl
 
-root-fits : (f : Format) (x : Float) → T (fits f x) → T (fits f (sqrt f x))
-unfolding sqrt
-root-fits f nan F = nan-fits f
-root-fits f (inf true) F = nan-fits f
-root-fits f (inf false) F = inf-fits f false
-root-fits f (fin true zero e) F = F
-root-fits f (fin false zero e) F = F
-root-fits f (fin true (suc m) e) F = nan-fits f
-root-fits f (fin false (suc m) e) F = round-fits f false _ _
-
 -- ---- the accepted root, y, and the root s: with other sizes one would be farther than it is
 module _ (b r : ℕ) (N : Normal b) (t : Tested b r) where
   abbrev x : Float
@@ -329,7 +319,7 @@ module _ (b r : ℕ) (N : Normal b) (t : Tested b r) where
   accepted_is_root =
       let s = sqrt binary64 x in
       let near = nearest_root binary64 x (of_bits-fits binary64 b) is_positive in
-      let F = root-fits binary64 x (of_bits-fits binary64 b) in
+      let F = sqrt-fits binary64 x in
       let h = positive_finite s near.above_zero in
       let G = of_bits-fits binary64 (root_pattern b r) in
       let v = root-value b r N t in

@@ -1,8 +1,8 @@
 -- The definitions give the answers of geographiclib-rs's own code at a few numbers, by computation: roots, and remainders at ties, at a negative multiple and where nothing is finite.
 use Rattle.std.proofs.Common.{◌≡◌, ℕ, T, refl}
-use lib.Ieee.{Float, binary64, neg, sub, rem, lt, le, eq, round, of_bits}
+use lib.Ieee.{Float, binary64, neg, sub, rem, lt, le, eq, round, of_bits, root_twice, root_below}
 use lib.Ieee.Positive.{positive}
-use Rattle.std.specs.Float.{float_is_finite, is_sign_negative, float_with_sign, sqrt, twice-sqrt-sticky, isqrt-below}
+use Rattle.std.specs.Float.{float_is_finite, is_sign_negative, float_with_sign, sqrt}
 use Rattle.floats.specs.Arithmetic.{bits}
 use Rattle.floats.specs.Remainders.{rest_by90, quotient_by90}
 
@@ -15,23 +15,23 @@ Remquo b r q = (rest_by90 (bits b) ≡ bits r) × (quotient_by90 (bits b) ≡ q)
 
 -- 2, the smallest number, the largest, -0 and -1
 root-two : Root 0x4000000000000000 0x3ff6a09e667f3bcd
-unfolding sqrt of_bits round twice-sqrt-sticky isqrt-below
+unfolding sqrt of_bits round root_twice root_below
 root-two = refl
 
 root_smallest : Root 0x0000000000000001 0x1e60000000000000
-unfolding sqrt of_bits round twice-sqrt-sticky isqrt-below
+unfolding sqrt of_bits round root_twice root_below
 root_smallest = refl
 
 root_largest : Root 0x7fefffffffffffff 0x5fefffffffffffff
-unfolding sqrt of_bits round twice-sqrt-sticky isqrt-below
+unfolding sqrt of_bits round root_twice root_below
 root_largest = refl
 
 root-minus-zero : Root 0x8000000000000000 0x8000000000000000
-unfolding sqrt of_bits round twice-sqrt-sticky isqrt-below
+unfolding sqrt of_bits round root_twice root_below
 root-minus-zero = refl
 
 root_negative : Root 0xbff0000000000000 0x7ff8000000000000
-unfolding sqrt of_bits round twice-sqrt-sticky isqrt-below
+unfolding sqrt of_bits round root_twice root_below
 root_negative = refl
 
 -- the law of roots speaks of the smallest number

@@ -1,6 +1,6 @@
 -- The root of W * (u * u), u a power of two, rounded to p digits, is strictly nearer than any other number of p digits: no tie occurs, since a root that is whole has no more digits than its square.
 use Rattle.std.proofs.Common.{◌≡◌, ℕ, zero, suc, ◌+◌, ◌*◌, ◌/◌, ◌%◌, ◌^◌, ◌<◌, ◌≤◌, sym, ap, ◌∙◌, subst, inl, inr, le_of_lt, eq-zero-or-pos, mul-lt-mul_of_pos_right, pow-suc, lt_of_not-le, arith}
-use Rattle.std.specs.Float.{twice-sqrt-sticky}
+use lib.Ieee.{root_twice}
 use Rattle.exact.specs.Rounded.{rounded, Rep}
 use Rattle.floats.proofs.WholeRoots.{under_even, over_even, odd_or_whole}
 use Rattle.exact.proofs.Naturals.{rep_small, rep_double, rounded-low, rounded-high, rounded_exact}
@@ -65,20 +65,20 @@ middle_over t R Y u h g m = strictly (omega arith) (λ e. omega (arith, m e))
     strictly x y = omega arith
 
 -- ---- twice the root of n rounds to R * (4 * u); Y is another number of p digits
-module _ (p n R u : ℕ) (P : 0 < p) (N : Rep p n) (U : 0 < u) (is : rounded p (twice-sqrt-sticky n) ≡ R * (4 * u)) where
-  never_middle : (S : ℕ) → twice-sqrt-sticky n ≡ 2 * (S * u) → twice-sqrt-sticky n ≡ R * (4 * u)
+module _ (p n R u : ℕ) (P : 0 < p) (N : Rep p n) (U : 0 < u) (is : rounded p (root_twice n) ≡ R * (4 * u)) where
+  never_middle : (S : ℕ) → root_twice n ≡ 2 * (S * u) → root_twice n ≡ R * (4 * u)
   never_middle S e =
       elim (odd_or_whole n) [
         | inl o ↦ absurd (omega arith)
         | inr w ↦
             let whole : Rep p w.0 = root_rep p N.digits N.places w.0 P N.few (w.2 ∙ N.is) in
-            let twice : Rep p (twice-sqrt-sticky n) = subst (Rep p) (sym w.1) (rep_double p w.0 whole) in
-            sym (rounded_exact p (twice-sqrt-sticky n) P twice) ∙ is
+            let twice : Rep p (root_twice n) = subst (Rep p) (sym w.1) (rep_double p w.0 whole) in
+            sym (rounded_exact p (root_twice n) P twice) ∙ is
       ]
 
   pub root_above : (Y : ℕ) → Rep p (Y * (4 * u)) → R < Y → n < (R + Y) * u * ((R + Y) * u)
   root_above Y r h =
-      let t = twice-sqrt-sticky n in
+      let t = root_twice n in
       let more : R * u < Y * u = mul-lt-mul_of_pos_right h U in
       let over : t ≤ Y * (4 * u) = le_of_lt (lt_of_not-le (λ g. too_far t R Y u more (subst (λ (k : ℕ). Y * (4 * u) ≤ k) is (rounded-low p (Y * (4 * u)) t P r g).0))) in
       under_even n ((R + Y) * u)
@@ -86,7 +86,7 @@ module _ (p n R u : ℕ) (P : 0 < p) (N : Rep p n) (U : 0 < u) (is : rounded p (
 
   pub root_below : (Y : ℕ) → Rep p (Y * (4 * u)) → Y < R → (R + Y) * u * ((R + Y) * u) < n
   root_below Y r h =
-      let t = twice-sqrt-sticky n in
+      let t = root_twice n in
       let less : Y * u < R * u = mul-lt-mul_of_pos_right h U in
       let under : Y * (4 * u) ≤ t = le_of_lt (lt_of_not-le (λ g. too_far t Y R u less (subst (λ (k : ℕ). k ≤ Y * (4 * u)) is (rounded-high p (Y * (4 * u)) t P r g).0))) in
       over_even n ((R + Y) * u)

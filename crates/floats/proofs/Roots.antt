@@ -1,15 +1,16 @@
 -- The root of a positive float is strictly nearer than any other float: it is the root on whole numbers, rounded in the normal range and below overflow.
-use Rattle.std.proofs.Common.{◌≡◌, ℕ, zero, suc, ◌+◌, ◌-◌, ◌*◌, ◌/◌, ◌^◌, ◌<◌, ◌≤◌, Bool, true, false, cond, T, ◌⊎◌, ℤ, pos, nat_abs, sym, refl, ap, ◌∙◌, subst, inl, inr, true≢false, le_trans, le_of_eq, lt_of_lt_of_le, lt_of_le_of_lt, le_of_lt, mul-le-mul_right, zero-lt-suc, mul_assoc, mul_comm, mul-le-mul, lt_of_mul-lt-mul_right, eq-or-lt_of_le, mul-lt-mul_of_pos_right, mul-pos, mul_right_comm, le_of_mul-le-mul_right, mul-div_cancel, arith, lit≤, pow_pos, pow_mono, pow-add, le-ltb, lt-ltb}
+use Rattle.std.proofs.Common.{negsuc, pow-suc, ◌≡◌, ℕ, zero, suc, ◌+◌, ◌-◌, ◌*◌, ◌/◌, ◌^◌, ◌<◌, ◌≤◌, Bool, true, false, cond, T, ◌⊎◌, ℤ, pos, nat_abs, sym, refl, ap, ◌∙◌, subst, inl, inr, true≢false, le_trans, le_of_eq, lt_of_lt_of_le, lt_of_le_of_lt, le_of_lt, mul-le-mul_right, zero-lt-suc, mul_assoc, mul_comm, mul-le-mul, lt_of_mul-lt-mul_right, eq-or-lt_of_le, mul-lt-mul_of_pos_right, mul-pos, mul_right_comm, le_of_mul-le-mul_right, mul-div_cancel, arith, lit≤, pow_pos, pow_mono, pow-add, le-ltb, lt-ltb}
 use native.Mathlib.Nat.{mul-mul-mul_comm}
+use lib.Dec.{eqb→eq}
 use lib.Pow.{pow-lt}
-use lib.Ieee.{Float, Format, nan, inf, fin, binary32, binary64, prec, emax, low, up, down, size, round, lt, fits}
+use lib.Ieee.{Float, Format, nan, inf, fin, binary32, binary64, prec, emax, low, up, down, size, round, lt, fits, root_twice}
 use lib.Ieee.Exact.{HasValue}
 use lib.Ieee.Fits.{down_pos, up_pos, round-fits}
 use lib.Ieee.Nearest.{closest, closest_same}
 use lib.Ieee.Order.{drop, kept}
 use lib.Ieee.Positive.{positive, positive_of_value, value_pos}
 use lib.Ieee.Scale.{overflow, grid, grid_scale, round_val, normal_of_fraction}
-use Rattle.std.specs.Float.{twice-sqrt-sticky, sqrt, float_is_finite, is_sign_negative}
+use Rattle.std.specs.Float.{sqrt, float_is_finite, is_sign_negative}
 use Rattle.exact.specs.Rounded.{rounded, Rep}
 use Rattle.exact.specs.Values.{value}
 use Rattle.exact.proofs.Naturals.{le_or_lt, rep_power, rep_scaled, rounded-low, rounded-high}
@@ -77,20 +78,20 @@ module _ (f : Format) (X k : ℕ) (some : 0 < X) (rep : Rep (prec f) X) (small :
   radicand = X * 2 ^ (low f + (k + 1 + (k + 1)))
 
   abbrev root : ℕ
-  root = grid f (twice-sqrt-sticky radicand) (2 ^ (low f + (k + 2)))
+  root = grid f (root_twice radicand) (2 ^ (low f + (k + 2)))
 
   radicand_is : radicand ≡ X * (2 ^ low f * (2 ^ (k + 1) * 2 ^ (k + 1)))
   radicand_is = ap (λ (q : ℕ). X * q) (pow-add 2 (low f) (k + 1 + (k + 1)) ∙ ap (λ (q : ℕ). 2 ^ low f * q) (pow-add 2 (k + 1) (k + 1)))
 
-  in_normal_range : 2 ^ (prec f - 1) * 2 ^ (k + 2) ≤ twice-sqrt-sticky radicand
+  in_normal_range : 2 ^ (prec f - 1) * 2 ^ (k + 2) ≤ root_twice radicand
   in_normal_range =
       let a = 2 ^ (prec f - 1) in
       let fine : a * a ≤ 2 ^ low f = le_trans (le_of_eq (sym (pow-add 2 (prec f - 1) (prec f - 1)))) (pow_mono (digits_low f)) in
-      subst (λ (q : ℕ). q ≤ twice-sqrt-sticky radicand) (doubled a k)
+      subst (λ (q : ℕ). q ≤ root_twice radicand) (doubled a k)
       (reaches_even radicand (a * 2 ^ (k + 1)) (subst (λ (q : ℕ). a * 2 ^ (k + 1) * (a * 2 ^ (k + 1)) ≤ q) (sym radicand_is) (reached a (2 ^ (k + 1)) X (2 ^ low f) fine some)))
 
-  root-rounded : root * 2 ^ (k + 2) ≡ rounded (prec f) (twice-sqrt-sticky radicand)
-  root-rounded = grid_rounded f (twice-sqrt-sticky radicand) (k + 2) in_normal_range
+  root-rounded : root * 2 ^ (k + 2) ≡ rounded (prec f) (root_twice radicand)
+  root-rounded = grid_rounded f (root_twice radicand) (k + 2) in_normal_range
 
   root_small : root < overflow f
   root_small =
@@ -100,10 +101,10 @@ module _ (f : Format) (X k : ℕ) (some : 0 < X) (rep : Rep (prec f) X) (small :
       let product : X * 2 ^ l < b * b =
       lt_of_lt_of_le (mul-lt-mul_of_pos_right small (pow_pos l))
       (le_trans (le_of_eq (sym (pow-add 2 (l + suc (emax f)) l))) (le_trans (pow_mono (twice_as_far l (emax f) (emax_pos f))) (le_of_eq (pow-add 2 (l + emax f) (l + emax f))))) in
-      let under : twice-sqrt-sticky radicand < 2 * (b * 2 ^ (k + 1)) =
+      let under : root_twice radicand < 2 * (b * 2 ^ (k + 1)) =
       stays_under_even radicand (b * 2 ^ (k + 1)) (subst (λ (q : ℕ). q < b * 2 ^ (k + 1) * (b * 2 ^ (k + 1))) (sym radicand_is) (not_reached b (2 ^ (k + 1)) X (2 ^ l) product (pow_pos (k + 1)))) in
-      let at_most : rounded (prec f) (twice-sqrt-sticky radicand) ≤ b * 2 ^ (k + 2) =
-      (rounded-high (prec f) (b * 2 ^ (k + 2)) (twice-sqrt-sticky radicand) P (rep_scaled (prec f) b (k + 2) (rep_power (prec f) (l + emax f) P)) (subst (λ (q : ℕ). twice-sqrt-sticky radicand ≤ q) (doubled b k) (le_of_lt under))).0 in
+      let at_most : rounded (prec f) (root_twice radicand) ≤ b * 2 ^ (k + 2) =
+      (rounded-high (prec f) (b * 2 ^ (k + 2)) (root_twice radicand) P (rep_scaled (prec f) b (k + 2) (rep_power (prec f) (l + emax f) P)) (subst (λ (q : ℕ). root_twice radicand ≤ q) (doubled b k) (le_of_lt under))).0 in
       lt_of_le_of_lt (le_of_mul-le-mul_right (subst (λ (q : ℕ). q ≤ b * 2 ^ (k + 2)) (sym root-rounded) at_most) (pow_pos (k + 2))) (pow-lt (more l (emax f)))
     where
       more : (m e : ℕ) → m + e < m + suc e
@@ -113,14 +114,14 @@ module _ (f : Format) (X k : ℕ) (some : 0 < X) (rep : Rep (prec f) X) (small :
   root_pos =
       let P = prec_pos f in
       let a = 2 ^ (prec f - 1) in
-      let at_least : a * 2 ^ (k + 2) ≤ rounded (prec f) (twice-sqrt-sticky radicand) =
-      (rounded-low (prec f) (a * 2 ^ (k + 2)) (twice-sqrt-sticky radicand) P (rep_scaled (prec f) a (k + 2) (rep_power (prec f) (prec f - 1) P)) in_normal_range).0 in
+      let at_least : a * 2 ^ (k + 2) ≤ rounded (prec f) (root_twice radicand) =
+      (rounded-low (prec f) (a * 2 ^ (k + 2)) (root_twice radicand) P (rep_scaled (prec f) a (k + 2) (rep_power (prec f) (prec f - 1) P)) in_normal_range).0 in
       lt_of_lt_of_le (pow_pos (prec f - 1)) (le_of_mul-le-mul_right (subst (λ (q : ℕ). a * 2 ^ (k + 2) ≤ q) (sym root-rounded) at_least) (pow_pos (k + 2)))
 
   radicand_squares : radicand ≡ 4 * X * 2 ^ low f * (2 ^ k * 2 ^ k)
   radicand_squares = radicand_is ∙ ap (λ (v : ℕ). X * (2 ^ low f * (v * v))) (pow-add 2 k 1) ∙ four_out X (2 ^ low f) (2 ^ k)
 
-  root-units : rounded (prec f) (twice-sqrt-sticky radicand) ≡ root * (4 * 2 ^ k)
+  root-units : rounded (prec f) (root_twice radicand) ≡ root * (4 * 2 ^ k)
   root-units = sym root-rounded ∙ ap (λ (q : ℕ). root * q) (four-units k)
 
   rep_units : (Y : ℕ) → Rep (prec f) Y → Rep (prec f) (Y * (4 * 2 ^ k))
@@ -176,30 +177,30 @@ scaled_up a d X l h D e =
 
 -- the float that is rounded, with a and b binary places
 abbrev root_at : Format → ℕ → ℤ → ℕ → ℕ → Float
-root_at f m e a b = round f false (twice-sqrt-sticky (suc m * up e * 2 ^ a / down e)) (2 ^ b)
+root_at f m e a b = round f false (root_twice (suc m * up e * 2 ^ a / down e)) (2 ^ b)
 
 sqrt_is : (f : Format) (m : ℕ) (e : ℤ) → sqrt f (fin false (suc m) e) ≡ root_at f m e 4542 2272
 unfolding sqrt
 sqrt_is f m e = refl
 
 sqrt-rounds : (f : Format) (m : ℕ) (e : ℤ) (X k : ℕ) → suc m * up e * 2 ^ low f ≡ X * down e → low f + (k + 2) ≡ 2272
-    → sqrt f (fin false (suc m) e) ≡ round f false (twice-sqrt-sticky (X * 2 ^ (low f + (k + 1 + (k + 1))))) (2 ^ (low f + (k + 2)))
+    → sqrt f (fin false (suc m) e) ≡ round f false (root_twice (X * 2 ^ (low f + (k + 1 + (k + 1))))) (2 ^ (low f + (k + 2)))
 sqrt-rounds f m e X k v h =
     sqrt_is f m e
     ∙ ap (λ (a : ℕ). root_at f m e a 2272) (places_twice (low f) k h)
     ∙ ap (root_at f m e (low f + (low f + (k + 1 + (k + 1))))) (sym h)
-    ∙ ap (λ (q : ℕ). round f false (twice-sqrt-sticky q) (2 ^ (low f + (k + 2)))) (scaled_up (suc m * up e) (down e) X (low f) (low f + (k + 1 + (k + 1))) (down_pos e) v)
+    ∙ ap (λ (q : ℕ). round f false (root_twice q) (2 ^ (low f + (k + 2)))) (scaled_up (suc m * up e) (down e) X (low f) (low f + (k + 1 + (k + 1))) (down_pos e) v)
 
 -- ---- the float nearest to the root of X units
 module _ (f : Format) (x : Float) (k : ℕ) (some : 0 < units f x) (rep : Rep (prec f) (units f x)) (small : units f x < overflow f) where
   abbrev rooted : Float
-  rooted = round f false (twice-sqrt-sticky (radicand f (units f x) k some rep small)) (2 ^ (low f + (k + 2)))
+  rooted = round f false (root_twice (radicand f (units f x) k some rep small)) (2 ^ (low f + (k + 2)))
 
   abbrev its_units : ℕ
   its_units = root f (units f x) k some rep small
 
   rooted-value : HasValue rooted false its_units (2 ^ low f)
-  rooted-value = round_val f (twice-sqrt-sticky (radicand f (units f x) k some rep small)) (2 ^ (low f + (k + 2))) (root_small f (units f x) k some rep small)
+  rooted-value = round_val f (root_twice (radicand f (units f x) k some rep small)) (2 ^ (low f + (k + 2))) (root_small f (units f x) k some rep small)
 
   farther : (y : Float) → T (fits f y) → T (float_is_finite y) → is_sign_negative y ≡ false → (y ≡ rooted → ⊥) → Farther f x rooted y
   farther y F h n ne =
@@ -211,7 +212,7 @@ module _ (f : Format) (x : Float) (k : ℕ) (some : 0 < units f x) (rep : Rep (p
       (elim (le_or_lt its_units Y) [
         | inl l ↦ elim (eq-or-lt_of_le l) [
           | inl e ↦
-              absurd (ne (same_sized f y rooted false Y F (round-fits f false (twice-sqrt-sticky (radicand f X k some rep small)) (2 ^ (low f + (k + 2)))) (plain_value f y F h n)
+              absurd (ne (same_sized f y rooted false Y F (round-fits f false (root_twice (radicand f X k some rep small)) (2 ^ (low f + (k + 2)))) (plain_value f y F h n)
               (subst (λ (R : ℕ). HasValue rooted false R (2 ^ low f)) e rooted-value)))
           | inr g ↦ inl (g, farther_above f X k some rep small Y r g)
         ]
@@ -243,19 +244,32 @@ none u d = omega arith
 some_size : (m u d : ℕ) → 0 < u → 0 < suc m * u * 1 + 0 * 1 * d
 some_size m u d h = omega (arith, mul-pos {m = suc m} (omega arith) h)
 
-pub other_root : (f : Format) (x : Float) → positive x ≡ false → sqrt f x ≡ root_of_other x
+not_twice : (p : ℕ) → 2 * p ≡ 1 → ⊥
+not_twice p e = omega arith
+
+one_power : (e : ℤ) → up e * down e ≡ 1 → e ≡ pos 0
+one_power (pos zero) h = refl
+one_power (pos (suc k)) h = absurd (not_twice (2 ^ k) (omega (arith, pow-suc 2 k)))
+one_power (negsuc k) h = absurd (not_twice (2 ^ k) (omega (arith, pow-suc 2 k)))
+
+-- a zero is written in one way
+zero_exp : (f : Format) (s : Bool) (e : ℤ) → T (fits f (fin s zero e)) → e ≡ pos 0
+unfolding fits
+zero_exp f s e t = one_power e (eqb→eq (up e * down e) 1 t)
+
+pub other_root : (f : Format) (x : Float) → T (fits f x) → positive x ≡ false → sqrt f x ≡ root_of_other x
 unfolding sqrt lt
-other_root f nan h = refl
-other_root f (inf true) h = refl
-other_root f (inf false) h = refl
-other_root f (fin true zero e) h = sym (ap (λ (t : Bool). cond t nan (fin true 0 e)) (le-ltb 0 (0 * up e * 1 + 0 * 1 * down e) (le_of_eq (none (up e) (down e)))))
-other_root f (fin false zero e) h = sym (ap (λ (t : Bool). cond t nan (fin false 0 e)) (le-ltb (0 * up e * 1) (0 * 1 * down e) (le_of_eq (sym (no_less (up e) (down e))))))
-other_root f (fin true (suc m) e) h = sym (ap (λ (t : Bool). cond t nan (fin true (suc m) e)) (lt-ltb 0 (suc m * up e * 1 + 0 * 1 * down e) (some_size m (up e) (down e) (up_pos e))))
-other_root f (fin false (suc m) e) h = absurd (true≢false (sym (lt-ltb 0 (suc m) (zero-lt-suc m)) ∙ h))
+other_root f nan F h = refl
+other_root f (inf true) F h = refl
+other_root f (inf false) F h = refl
+other_root f (fin true zero e) F h = ap (fin true 0) (sym (zero_exp f true e F)) ∙ sym (ap (λ (t : Bool). cond t nan (fin true 0 e)) (le-ltb 0 (0 * up e * 1 + 0 * 1 * down e) (le_of_eq (none (up e) (down e)))))
+other_root f (fin false zero e) F h = ap (fin false 0) (sym (zero_exp f false e F)) ∙ sym (ap (λ (t : Bool). cond t nan (fin false 0 e)) (le-ltb (0 * up e * 1) (0 * 1 * down e) (le_of_eq (sym (no_less (up e) (down e))))))
+other_root f (fin true (suc m) e) F h = sym (ap (λ (t : Bool). cond t nan (fin true (suc m) e)) (lt-ltb 0 (suc m * up e * 1 + 0 * 1 * down e) (some_size m (up e) (down e) (up_pos e))))
+other_root f (fin false (suc m) e) F h = absurd (true≢false (sym (lt-ltb 0 (suc m) (zero-lt-suc m)) ∙ h))
 
 -- ---- of an answer
 pub nearest_answer : (x r : Float) → fits binary64 x ≡ true → r ≡ sqrt binary64 x → T (positive x) → NearestRoot binary64 x r
 nearest_answer x r F e p = subst (NearestRoot binary64 x) (sym e) (nearest_root binary64 x (subst T (sym F) tt) p)
 
-pub other_answer : (x r : Float) → r ≡ sqrt binary64 x → positive x ≡ false → r ≡ root_of_other x
-other_answer x r e h = e ∙ other_root binary64 x h
+pub other_answer : (x r : Float) → fits binary64 x ≡ true → r ≡ sqrt binary64 x → positive x ≡ false → r ≡ root_of_other x
+other_answer x r F e h = e ∙ other_root binary64 x (subst T (sym F) tt) h

@@ -1,5 +1,7 @@
 // Floats: the larger and the smaller of two, a copied sign, the error-free sum, the root, the
 // remainder by 90 degrees, polynomials.
+#![tactic(auto)]
+
 mod guesses;
 
 ghost use Rattle.std.specs.Prelude.{◌≡◌, ◌<◌, false, T};

@@ -1,5 +1,7 @@
 // Function sets: the interface of the seven elementary functions that the geodesic code calls, and
 // a set of them by series.
+#![tactic(auto)]
+
 mod arcs;
 mod circle;
 mod cube_root;

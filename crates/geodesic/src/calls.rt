@@ -37,7 +37,7 @@ impl<F: FunctionSet + Drop> Geodesic<F> {
     // The ellipsoid of the equatorial radius a, from 1 to 10^9, and the flattening f, from -0.02 to
     // 0.02; refused where its whole area is not finite or is below 2^-1021.
     pub fn new(set: F, a: f64, f: f64) -> Result<Geodesic<F>, Refusal>
-        ensures { MatchResult result (λ g. (shape_refusal (funcs set) a f ≡ None) × (g.set ≡ set) × (g.shape ≡ Ellipsoids.ellipsoid (funcs set) a f)) (λ e. shape_refusal (funcs set) a f ≡ Some e) }
+        ensures { MatchResult result (λ g. (shape_refusal (F.funcs set) a f ≡ None) × (g.set ≡ set) × (g.shape ≡ Ellipsoids.ellipsoid (F.funcs set) a f)) (λ e. shape_refusal (F.funcs set) a f ≡ Some e) }
     {
         if !accepted_shape(a, f) {
             return Err(Refusal::Shape);
@@ -51,7 +51,7 @@ impl<F: FunctionSet + Drop> Geodesic<F> {
 
     // The WGS84 ellipsoid.
     pub fn wgs84(set: F) -> Result<Geodesic<F>, Refusal>
-        ensures { MatchResult result (λ g. (shape_refusal (funcs set) wgs84_a wgs84_f ≡ None) × (g.set ≡ set) × (g.shape ≡ Ellipsoids.ellipsoid (funcs set) wgs84_a wgs84_f)) (λ e. shape_refusal (funcs set) wgs84_a wgs84_f ≡ Some e) }
+        ensures { MatchResult result (λ g. (shape_refusal (F.funcs set) wgs84_a wgs84_f ≡ None) × (g.set ≡ set) × (g.shape ≡ Ellipsoids.ellipsoid (F.funcs set) wgs84_a wgs84_f)) (λ e. shape_refusal (F.funcs set) wgs84_a wgs84_f ≡ Some e) }
     {
         Geodesic::new(set, WGS84_A, WGS84_F)
     }
@@ -81,7 +81,7 @@ impl<F: FunctionSet> Geodesic<F> {
         lon2: f64,
         mask: u64,
     ) -> Result<Inverse, Refusal>
-        ensures value { result ≡ answered lat1 lon1 lat2 lon2 (Definitions.inverse (funcs self.now.set) self.now.shape mask lat1 lon1 lat2 lon2) }
+        ensures value { result ≡ answered lat1 lon1 lat2 lon2 (Definitions.inverse (F.funcs self.now.set) self.now.shape mask lat1 lon1 lat2 lon2) }
         ensures mirror { MirrorLaw }
     {
         if !accepted_both(lat1, lon1, lat2, lon2) {
@@ -99,7 +99,7 @@ impl<F: FunctionSet> Geodesic<F> {
         lon2: f64,
         mask: u64,
     ) -> Result<InverseAzi, Refusal>
-        ensures { result ≡ answered lat1 lon1 lat2 lon2 (inverse_azi (funcs self.now.set) self.now.shape mask lat1 lon1 lat2 lon2) }
+        ensures { result ≡ answered lat1 lon1 lat2 lon2 (inverse_azi (F.funcs self.now.set) self.now.shape mask lat1 lon1 lat2 lon2) }
     {
         if !accepted_both(lat1, lon1, lat2, lon2) {
             return Err(Refusal::Point);

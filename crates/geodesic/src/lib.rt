@@ -1,4 +1,6 @@
 // Geodesics on an ellipsoid with a function set: the calls, and the ellipsoid as a surface.
+#![tactic(auto)]
+
 mod calls;
 mod model;
 

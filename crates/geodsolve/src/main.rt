@@ -1,5 +1,7 @@
 // The inverse problem on WGS84, line by line from standard input, printed as GeographicLib's
 // GeodSolve -i prints it.
+#![tactic(auto)]
+
 mod answers;
 mod lines;
 mod options;

@@ -1,5 +1,7 @@
 // Angles in degrees: rounding near zero, reduction, the difference of longitudes; and the sum
 // and the polynomial that go with them.
+#![tactic(auto)]
+
 ghost use Rattle.std.specs.Prelude.{◌≡◌, true};
 ghost use Rattle.std.specs.Float.{float_is_finite};
 ghost use Rattle.geomath.specs.Exact.{Normalized, Difference};

@@ -1,5 +1,7 @@
 // What an outline keeps beside its surface, the calls on it and their answers. The definitions say
 // what each call does, and what the book of an outline says of a whole history of calls.
+#![tactic(auto)]
+
 use area::Winding;
 use polygon::Figures;
 use stations::Cost;

@@ -1,4 +1,6 @@
 // The inverse problem on an ellipsoid, over any function set: the geodesic between two points.
+#![tactic(auto)]
+
 pub mod area_term;
 pub mod canonical;
 pub mod paths;

@@ -38,7 +38,7 @@ fn is_on_meridian(c: Canonical, d: Difference) -> bool
 }
 
 fn meridian_arc<F: FunctionSet>(set: &F, e: Ends, d: Difference) -> Arc
-    ensures { result ≡ Definitions.meridian_arc (funcs set.now) e d }
+    ensures { result ≡ Definitions.meridian_arc (F.funcs set.now) e d }
 {
     arc_of(set, e.sbet1, d.clam12 * e.cbet1, e.sbet2, 1.0 * e.cbet2)
 }
@@ -88,7 +88,7 @@ fn is_on_equator(shape: &Ellipsoid, c: Canonical, e: Ends) -> bool
 
 // The cosine where the scales are wanted, else NaN.
 fn scale_if<F: FunctionSet>(set: &F, angle: f64, mask: u64) -> f64
-    ensures { result ≡ Definitions.scale_if (funcs set.now) angle mask }
+    ensures { result ≡ Definitions.scale_if (F.funcs set.now) angle mask }
 {
     if wanted(mask, GEODESICSCALE) {
         set.cos(angle)
@@ -104,7 +104,7 @@ fn equator_path<F: FunctionSet>(
     d: Difference,
     mask: u64,
 ) -> Path
-    ensures { result ≡ Definitions.equator_path (funcs set.now) shape.now c d mask }
+    ensures { result ≡ Definitions.equator_path (F.funcs set.now) shape.now c d mask }
 {
     let omg12 = d.lam12 / shape.f1;
     let scale = scale_if(set, omg12, mask);
@@ -134,7 +134,7 @@ fn short_path<F: FunctionSet>(
     s: Start,
     mask: u64,
 ) -> Path
-    ensures { result ≡ Definitions.short_path (funcs set.now) shape.now d s mask }
+    ensures { result ≡ Definitions.short_path (F.funcs set.now) shape.now d s mask }
 {
     let angle = s.sig12 / s.dnm;
     let scale = scale_if(set, angle, mask);
@@ -196,7 +196,7 @@ fn newton_path<F: FunctionSet>(
     s: Start,
     mask: u64,
 ) -> Path
-    ensures { result ≡ Definitions.newton_path (funcs set.now) shape.now e d s mask }
+    ensures { result ≡ Definitions.newton_path (F.funcs set.now) shape.now e d s mask }
 {
     let found = solve_azimuth(set, shape, e, d, s.alp1);
     found_path(shape, found, found_lengths(shape, e, found, mask))
@@ -210,7 +210,7 @@ fn other_path<F: FunctionSet>(
     d: Difference,
     mask: u64,
 ) -> Path
-    ensures { result ≡ Definitions.other_path (funcs set.now) shape.now c e d mask }
+    ensures { result ≡ Definitions.other_path (F.funcs set.now) shape.now c e d mask }
 {
     if is_on_equator(shape, c, e) {
         return equator_path(set, shape, c, d, mask);
@@ -232,7 +232,7 @@ fn meridian_first<F: FunctionSet>(
     d: Difference,
     mask: u64,
 ) -> Path
-    ensures { result ≡ Definitions.meridian_first (funcs set.now) shape.now c e d mask }
+    ensures { result ≡ Definitions.meridian_first (F.funcs set.now) shape.now c e d mask }
 {
     let arc = meridian_arc(set, e, d);
     let l = meridian_lengths(shape, arc, e, mask);
@@ -252,7 +252,7 @@ pub fn path_of<F: FunctionSet>(
     d: Difference,
     mask: u64,
 ) -> Path
-    ensures { result ≡ Definitions.path_of (funcs set.now) shape.now c e d mask }
+    ensures { result ≡ Definitions.path_of (F.funcs set.now) shape.now c e d mask }
 {
     if is_on_meridian(c, d) {
         meridian_first(set, shape, c, e, d, mask)

@@ -78,7 +78,7 @@ fn area_if<F: FunctionSet>(
     mask: u64,
     p: Path,
 ) -> f64
-    ensures { result ≡ Definitions.area_if (funcs set.now) shape.now e d mask p }
+    ensures { result ≡ Definitions.area_if (F.funcs set.now) shape.now e d mask p }
 {
     if wanted(mask, AREA) {
         area_of(set, shape, e, d, p)
@@ -96,7 +96,7 @@ fn measure<F: FunctionSet>(
     mask: u64,
     p: Path,
 ) -> Solved
-    ensures { result ≡ Definitions.measured (funcs set.now) shape.now e d mask p }
+    ensures { result ≡ Definitions.measured (F.funcs set.now) shape.now e d mask p }
 {
     Solved {
         s12: length_if(mask, DISTANCE, p.s12x),
@@ -113,7 +113,7 @@ fn measure<F: FunctionSet>(
 
 // The inverse problem in canonical form.
 pub fn solve<F: FunctionSet>(set: &F, shape: &Ellipsoid, mask: u64, c: Canonical) -> Solved
-    ensures { result ≡ Definitions.solved (funcs set.now) shape.now mask c }
+    ensures { result ≡ Definitions.solved (F.funcs set.now) shape.now mask c }
 {
     let e = ends_of(set, shape, c.lat1, c.lat2);
     let d = difference_of(set, c.lon12, c.lon12s);
@@ -190,7 +190,7 @@ pub fn _gen_inverse<F: FunctionSet>(
     lon2: f64,
     mask: u64,
 ) -> Inverse
-    ensures { result ≡ Definitions.inverse (funcs set.now) shape.now mask lat1 lon1 lat2 lon2 }
+    ensures { result ≡ Definitions.inverse (F.funcs set.now) shape.now mask lat1 lon1 lat2 lon2 }
 {
     let (form, signs) = canonical_form(lat1, lon1, lat2, lon2);
     restore(signs, mask, solve(set, shape, mask, form))
@@ -198,7 +198,7 @@ pub fn _gen_inverse<F: FunctionSet>(
 
 // A bearing where bearings are wanted, else NaN.
 fn bearing_if<F: FunctionSet>(set: &F, mask: u64, salp: f64, calp: f64) -> f64
-    ensures { result ≡ Definitions.bearing_if (funcs set.now) mask salp calp }
+    ensures { result ≡ Definitions.bearing_if (F.funcs set.now) mask salp calp }
 {
     if wanted(mask, AZIMUTH) {
         atan2d(set, salp, calp)
@@ -217,7 +217,7 @@ pub fn _gen_inverse_azi<F: FunctionSet>(
     lon2: f64,
     mask: u64,
 ) -> InverseAzi
-    ensures { result ≡ Definitions.inverse_azi (funcs set.now) shape.now mask lat1 lon1 lat2 lon2 }
+    ensures { result ≡ Definitions.inverse_azi (F.funcs set.now) shape.now mask lat1 lon1 lat2 lon2 }
 {
     let r = _gen_inverse(set, shape, lat1, lon1, lat2, lon2, mask);
     InverseAzi {

@@ -1,5 +1,7 @@
 // Long runs of mixed calls on outlines, refused ones and rows of other lengths among them. Each answer
 // is compared with the book kept as plain lists, and each measure with a new polygon.
+#![tactic(auto)]
+
 mod chance;
 
 use anyhow::anyhow;

@@ -17,7 +17,7 @@ pub fn fresh_figures<S: Surface + Drop>(
     sign: bool,
     points: &[Point],
 ) -> Result<Figures, Refusal>
-    ensures { IfOk result (λ f. f ≡ figures_of (edges surface) (whole surface) winding sign points.now) }
+    ensures { IfOk result (λ f. f ≡ figures_of (S.edges surface) (S.whole surface) winding sign points.now) }
 {
     let mut polygon = PolygonArea::new(surface, winding);
     for point in points {

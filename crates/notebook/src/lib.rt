@@ -1,5 +1,7 @@
 // The book of an outline kept as plain lists, with no stations and no edit records, and the figures
 // of its standing points from a new PolygonArea: what an outline is compared with.
+#![tactic(auto)]
+
 mod grounds;
 mod pages;
 

@@ -123,10 +123,10 @@ impl<S: Surface> Outline<S> {
         lat: f64,
         lon: f64,
     ) -> Result<Cost, Refusal>
-        ensures answer { result ≡ (add_of (edges self.old.surface) self.old.frame stations.old edits.old lat lon).answer }
-        ensures frame { self.new.frame ≡ (add_of (edges self.old.surface) self.old.frame stations.old edits.old lat lon).frame }
-        ensures stations { stations.new ≡ (add_of (edges self.old.surface) self.old.frame stations.old edits.old lat lon).stations }
-        ensures edits { edits.new ≡ (add_of (edges self.old.surface) self.old.frame stations.old edits.old lat lon).edits }
+        ensures answer { result ≡ (add_of (S.edges self.old.surface) self.old.frame stations.old edits.old lat lon).answer }
+        ensures frame { self.new.frame ≡ (add_of (S.edges self.old.surface) self.old.frame stations.old edits.old lat lon).frame }
+        ensures stations { stations.new ≡ (add_of (S.edges self.old.surface) self.old.frame stations.old edits.old lat lon).stations }
+        ensures edits { edits.new ≡ (add_of (S.edges self.old.surface) self.old.frame stations.old edits.old lat lon).edits }
         ensures surface { self.new.surface ≡ self.old.surface }
         ensures cost { Costs result (add_edges self.old.frame.counts.stations) }
     {
@@ -155,10 +155,10 @@ impl<S: Surface> Outline<S> {
         lat: f64,
         lon: f64,
     ) -> Result<Cost, Refusal>
-        ensures answer { result ≡ (move_of (edges self.old.surface) self.old.frame stations.old edits.old place lat lon).answer }
-        ensures frame { self.new.frame ≡ (move_of (edges self.old.surface) self.old.frame stations.old edits.old place lat lon).frame }
-        ensures stations { stations.new ≡ (move_of (edges self.old.surface) self.old.frame stations.old edits.old place lat lon).stations }
-        ensures edits { edits.new ≡ (move_of (edges self.old.surface) self.old.frame stations.old edits.old place lat lon).edits }
+        ensures answer { result ≡ (move_of (S.edges self.old.surface) self.old.frame stations.old edits.old place lat lon).answer }
+        ensures frame { self.new.frame ≡ (move_of (S.edges self.old.surface) self.old.frame stations.old edits.old place lat lon).frame }
+        ensures stations { stations.new ≡ (move_of (S.edges self.old.surface) self.old.frame stations.old edits.old place lat lon).stations }
+        ensures edits { edits.new ≡ (move_of (S.edges self.old.surface) self.old.frame stations.old edits.old place lat lon).edits }
         ensures surface { self.new.surface ≡ self.old.surface }
         ensures cost { Costs result (neighbours self.old.frame.counts.stations place) }
     {
@@ -191,10 +191,10 @@ impl<S: Surface> Outline<S> {
         edits: &mut [EditRecord],
         place: usize,
     ) -> Result<Cost, Refusal>
-        ensures answer { result ≡ (drop_of (edges self.old.surface) self.old.frame stations.old edits.old place).answer }
-        ensures frame { self.new.frame ≡ (drop_of (edges self.old.surface) self.old.frame stations.old edits.old place).frame }
-        ensures stations { stations.new ≡ (drop_of (edges self.old.surface) self.old.frame stations.old edits.old place).stations }
-        ensures edits { edits.new ≡ (drop_of (edges self.old.surface) self.old.frame stations.old edits.old place).edits }
+        ensures answer { result ≡ (drop_of (S.edges self.old.surface) self.old.frame stations.old edits.old place).answer }
+        ensures frame { self.new.frame ≡ (drop_of (S.edges self.old.surface) self.old.frame stations.old edits.old place).frame }
+        ensures stations { stations.new ≡ (drop_of (S.edges self.old.surface) self.old.frame stations.old edits.old place).stations }
+        ensures edits { edits.new ≡ (drop_of (S.edges self.old.surface) self.old.frame stations.old edits.old place).edits }
         ensures surface { self.new.surface ≡ self.old.surface }
         ensures cost { Costs result (bridged self.old.frame.counts.stations place) }
     {
@@ -215,8 +215,8 @@ impl<S: Surface> Outline<S> {
     fn undraw(&self, stations: &mut [Station], edit: EditRecord) -> (Cost, u16)
         requires fits { fits_outline self.now.frame.counts.stations (length stations.old) edit ≡ true }
         requires rows { length stations.old ≡ self.now.frame.lengths.stations }
-        ensures stations { stations.new ≡ (undrawn (edges self.now.surface) stations.old self.now.frame.counts.stations edit).stations }
-        ensures cost { result.0 ≡ (undrawn (edges self.now.surface) stations.old self.now.frame.counts.stations edit).cost }
+        ensures stations { stations.new ≡ (undrawn (S.edges self.now.surface) stations.old self.now.frame.counts.stations edit).stations }
+        ensures cost { result.0 ≡ (undrawn (S.edges self.now.surface) stations.old self.now.frame.counts.stations edit).cost }
         ensures count { result.1 ≡ undrawn_count self.now.frame.counts.stations edit }
         ensures held { result.1 ≤ self.now.frame.lengths.stations }
         ensures few { result.0.evaluations ≤ 83 * result.0.edges }
@@ -252,10 +252,10 @@ impl<S: Surface> Outline<S> {
         stations: &mut [Station],
         edits: &[EditRecord],
     ) -> Result<Cost, Refusal>
-        ensures answer { result ≡ (take_back_of (edges self.old.surface) self.old.frame stations.old edits.now).answer }
-        ensures frame { self.new.frame ≡ (take_back_of (edges self.old.surface) self.old.frame stations.old edits.now).frame }
-        ensures stations { stations.new ≡ (take_back_of (edges self.old.surface) self.old.frame stations.old edits.now).stations }
-        ensures edits { edits.now ≡ (take_back_of (edges self.old.surface) self.old.frame stations.old edits.now).edits }
+        ensures answer { result ≡ (take_back_of (S.edges self.old.surface) self.old.frame stations.old edits.now).answer }
+        ensures frame { self.new.frame ≡ (take_back_of (S.edges self.old.surface) self.old.frame stations.old edits.now).frame }
+        ensures stations { stations.new ≡ (take_back_of (S.edges self.old.surface) self.old.frame stations.old edits.now).stations }
+        ensures edits { edits.now ≡ (take_back_of (S.edges self.old.surface) self.old.frame stations.old edits.now).edits }
         ensures surface { self.new.surface ≡ self.old.surface }
         ensures cost { Costs result (take_back_edges self.old.frame.counts.stations (newest_of edits.now self.old.frame.counts.edits)) }
     {
@@ -285,7 +285,7 @@ impl<S: Surface> Outline<S> {
         edits: &[EditRecord],
         sign: bool,
     ) -> Result<Measurement, Refusal>
-        ensures answer { result ≡ measure_of (edges self.now.surface) (whole self.now.surface) self.now.frame stations.now edits.now sign }
+        ensures answer { result ≡ measure_of (S.edges self.now.surface) (S.whole self.now.surface) self.now.frame stations.now edits.now sign }
         ensures edges { IfOk result (λ m. (m.cost.edges ≡ 1) × (m.cost.evaluations ≤ 83)) }
         ensures rule { WholeRule }
     {
@@ -299,7 +299,7 @@ impl<S: Surface> Outline<S> {
     // The figures of these stations with the closing edge.
     fn closed(&self, row: &[Station], sign: bool) -> Measurement
         requires { length row.now ≤ 65535 }
-        ensures { result ≡ measured (edges self.now.surface) (whole self.now.surface) self.now.frame.winding sign row.now }
+        ensures { result ≡ measured (S.edges self.now.surface) (S.whole self.now.surface) self.now.frame.winding sign row.now }
     {
         let sums = sums_over(row);
         let last = last_point(row);

@@ -1,5 +1,7 @@
 // An outline that can be edited: its points stand in a row of stations, and its edits in a row of
 // edit records, both in the caller's storage and handed to each call.
+#![tactic(auto)]
+
 mod calls;
 mod outlines;
 mod replays;

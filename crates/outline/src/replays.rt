@@ -34,10 +34,10 @@ fn measure_answer(res: Result<Measurement, Refusal>) -> Answer
 impl<S: Surface> Outline<S> {
     // Makes a call.
     pub fn make(&mut self, stations: &mut [Station], edits: &mut [EditRecord], call: Call) -> Answer
-        ensures answer { result ≡ (done_of (edges self.old.surface) (whole self.old.surface) self.old.frame stations.old edits.old call).answer }
-        ensures frame { self.new.frame ≡ (done_of (edges self.old.surface) (whole self.old.surface) self.old.frame stations.old edits.old call).frame }
-        ensures stations { stations.new ≡ (done_of (edges self.old.surface) (whole self.old.surface) self.old.frame stations.old edits.old call).stations }
-        ensures edits { edits.new ≡ (done_of (edges self.old.surface) (whole self.old.surface) self.old.frame stations.old edits.old call).edits }
+        ensures answer { result ≡ (done_of (S.edges self.old.surface) (S.whole self.old.surface) self.old.frame stations.old edits.old call).answer }
+        ensures frame { self.new.frame ≡ (done_of (S.edges self.old.surface) (S.whole self.old.surface) self.old.frame stations.old edits.old call).frame }
+        ensures stations { stations.new ≡ (done_of (S.edges self.old.surface) (S.whole self.old.surface) self.old.frame stations.old edits.old call).stations }
+        ensures edits { edits.new ≡ (done_of (S.edges self.old.surface) (S.whole self.old.surface) self.old.frame stations.old edits.old call).edits }
         ensures surface { self.new.surface ≡ self.old.surface }
         ensures few { Affordable (cost_in result) }
     {
@@ -63,9 +63,9 @@ fn make_each<S: Surface>(
     answers: &mut [Answer],
 ) -> usize
     ensures made { result ≡ calls_made calls.now answers.old }
-    ensures stations { stations.new ≡ (ran (edges outline.old.surface) (whole outline.old.surface) outline.old.frame stations.old edits.old (take result calls.now)).stations }
-    ensures edits { edits.new ≡ (ran (edges outline.old.surface) (whole outline.old.surface) outline.old.frame stations.old edits.old (take result calls.now)).edits }
-    ensures answers { answers.new ≡ (ran (edges outline.old.surface) (whole outline.old.surface) outline.old.frame stations.old edits.old (take result calls.now)).answers ++ drop result answers.old }
+    ensures stations { stations.new ≡ (ran (S.edges outline.old.surface) (S.whole outline.old.surface) outline.old.frame stations.old edits.old (take result calls.now)).stations }
+    ensures edits { edits.new ≡ (ran (S.edges outline.old.surface) (S.whole outline.old.surface) outline.old.frame stations.old edits.old (take result calls.now)).edits }
+    ensures answers { answers.new ≡ (ran (S.edges outline.old.surface) (S.whole outline.old.surface) outline.old.frame stations.old edits.old (take result calls.now)).answers ++ drop result answers.old }
 {
     let made = calls.len().min(answers.len());
     for i in 0..made {
@@ -84,11 +84,11 @@ pub fn replay<S: Surface + Drop>(
     calls: &[Call],
     answers: &mut [Answer],
 ) -> Result<usize, Refusal>
-    ensures answer { result ≡ (replay_of (edges surface) (whole surface) winding stations.old edits.old calls.now answers.old).answer }
-    ensures stations { stations.new ≡ (replay_of (edges surface) (whole surface) winding stations.old edits.old calls.now answers.old).stations }
-    ensures edits { edits.new ≡ (replay_of (edges surface) (whole surface) winding stations.old edits.old calls.now answers.old).edits }
-    ensures answers { answers.new ≡ (replay_of (edges surface) (whole surface) winding stations.old edits.old calls.now answers.old).answers }
-    ensures law { IfOk result (λ n. AnswersAgree (edges surface) (whole surface) winding (lengths_of stations.old edits.old) empty_book (take n calls.now) (take n answers.new)) }
+    ensures answer { result ≡ (replay_of (S.edges surface) (S.whole surface) winding stations.old edits.old calls.now answers.old).answer }
+    ensures stations { stations.new ≡ (replay_of (S.edges surface) (S.whole surface) winding stations.old edits.old calls.now answers.old).stations }
+    ensures edits { edits.new ≡ (replay_of (S.edges surface) (S.whole surface) winding stations.old edits.old calls.now answers.old).edits }
+    ensures answers { answers.new ≡ (replay_of (S.edges surface) (S.whole surface) winding stations.old edits.old calls.now answers.old).answers }
+    ensures law { IfOk result (λ n. AnswersAgree (S.edges surface) (S.whole surface) winding (lengths_of stations.old edits.old) empty_book (take n calls.now) (take n answers.new)) }
 {
     let mut outline = Outline::open(surface, winding, stations.len(), edits.len())?;
     Ok(make_each(&mut outline, stations, edits, calls, answers))

@@ -1,5 +1,7 @@
 // The library for programs in C and Rust: outlines in rows of the caller's storage, packed sheets, and
 // the inverse problem on the WGS84 ellipsoid. `include/outline.h` declares the exports.
+#![tactic(auto)]
+
 mod edits;
 mod faults;
 mod figures;

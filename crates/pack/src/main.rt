@@ -1,4 +1,6 @@
 // Packs a text of calls into a sheet: from standard input to standard output.
+#![tactic(auto)]
+
 mod edits;
 mod options;
 mod sheets;

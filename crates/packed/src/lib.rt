@@ -1,4 +1,6 @@
 // Packed sheets: the edits of an outline as a file of bits.
+#![tactic(auto)]
+
 mod bits;
 mod faults;
 mod packs;

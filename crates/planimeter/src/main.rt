@@ -1,5 +1,7 @@
 // The perimeter and the area of an outline on an ellipsoid or on a plate, line by line from standard
 // input.
+#![tactic(auto)]
+
 ghost use Rattle.std.specs.Prelude.{◌≡◌, OnOk};
 ghost use Rattle.text.specs.Words.{lines_of};
 ghost use Rattle.planimeter.specs.Steps.{Drawn};
@@ -76,7 +78,7 @@ fn trace<S: Surface>(
     polygon: &mut PolygonArea<S>,
     text: &str,
 ) -> anyhow::Result<()>
-    ensures drawn { OnOk result (Drawn (edges polygon.old.surface) polygon.old.traverse (lines_of text.now) polygon.new.traverse) }
+    ensures drawn { OnOk result (Drawn (S.edges polygon.old.surface) polygon.old.traverse (lines_of text.now) polygon.new.traverse) }
     ensures surface { polygon.new.surface ≡ polygon.old.surface }
     ensures winding { polygon.new.winding ≡ polygon.old.winding }
 {

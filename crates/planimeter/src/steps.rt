@@ -17,7 +17,7 @@ pub enum Step {
 // Offers what a line says to the polygon.
 pub fn offer<S: Surface>(polygon: &mut PolygonArea<S>, entry: Entry) -> Step
     ensures answer { result ≡ step_at polygon.old.traverse.num entry }
-    ensures traverse { polygon.new.traverse ≡ traverse_after (edges polygon.old.surface) polygon.old.traverse entry }
+    ensures traverse { polygon.new.traverse ≡ traverse_after (S.edges polygon.old.surface) polygon.old.traverse entry }
     ensures surface { polygon.new.surface ≡ polygon.old.surface }
     ensures winding { polygon.new.winding ≡ polygon.old.winding }
 {

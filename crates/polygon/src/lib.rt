@@ -1,4 +1,6 @@
 // The perimeter and the area of a polygon on any surface, fed point by point.
+#![tactic(auto)]
+
 ghost use Rattle.std.specs.Prelude.{◌≡◌, ◌≤◌, unsigned_abs};
 ghost use Rattle.polygon.specs.Transits.{transit_of};
 

@@ -49,7 +49,7 @@ impl<S: Surface> PolygonArea<S> {
     // latest.
     fn fed(&self, point: Point) -> Traverse
         requires { self.now.traverse.num < 4294967295 }
-        ensures value { result ≡ fed (edges self.now.surface) self.now.traverse point }
+        ensures value { result ≡ fed (S.edges self.now.surface) self.now.traverse point }
         ensures few { unsigned_abs result.crossings ≤ result.num }
     {
         let old = self.traverse;
@@ -79,7 +79,7 @@ impl<S: Surface> PolygonArea<S> {
     // given; then nothing changes.
     pub fn add_point(&mut self, lat: f64, lon: f64) -> Result<(), Refusal>
         ensures answer { result_err result ≡ point_refusal self.old.traverse.num lat lon }
-        ensures traverse { self.new.traverse ≡ offered (edges self.old.surface) self.old.traverse lat lon }
+        ensures traverse { self.new.traverse ≡ offered (S.edges self.old.surface) self.old.traverse lat lon }
         ensures surface { self.new.surface ≡ self.old.surface }
         ensures winding { self.new.winding ≡ self.old.winding }
     {
@@ -99,9 +99,9 @@ impl<S: Surface> PolygonArea<S> {
     pub fn compute(self, sign: bool) -> Figures
     where
         S: Drop,
-        ensures value { result ≡ closed (edges self.surface) (whole self.surface) self.winding sign self.traverse }
-        ensures polygon { (points : List Point) → self.traverse ≡ fed_all (edges self.surface) begun points → result ≡ figures_of (edges self.surface) (whole self.surface) self.winding sign points }
-        ensures area_law { (points : List Point) → self.traverse ≡ fed_all (edges self.surface) begun points → PolygonLaw (edges self.surface) (whole self.surface) self.winding sign points result.area }
+        ensures value { result ≡ closed (S.edges self.surface) (S.whole self.surface) self.winding sign self.traverse }
+        ensures polygon { (points : List Point) → self.traverse ≡ fed_all (S.edges self.surface) begun points → result ≡ figures_of (S.edges self.surface) (S.whole self.surface) self.winding sign points }
+        ensures area_law { (points : List Point) → self.traverse ≡ fed_all (S.edges self.surface) begun points → PolygonLaw (S.edges self.surface) (S.whole self.surface) self.winding sign points result.area }
     {
         let last = self.traverse.latest;
         let first = self.traverse.initial;

@@ -1,4 +1,6 @@
 // Lists of cases: reading one, comparing it with a function, counting a whole list.
+#![tactic(auto)]
+
 ghost use Rattle.std.specs.Prelude.{◌≡◌, ◌+◌, ◌^◌, ◌<◌, ◌≤◌, Float};
 ghost use Rattle.replay.specs.Verdicts.{case_of, same_pattern, agrees_on, counted, tally_of};
 
@@ -7,7 +9,7 @@ use text::{pattern_of, split_line, split_word};
 
 // A function of two floats that answers two; where one of them does not count, it is +0.
 pub trait Answers {
-    ghost answersOf: { Self → Float → Float → Float × Float };
+    ghost answers_of: { Self → Float → Float → Float × Float };
 
     fn answers(&self, x: f64, y: f64) -> (f64, f64)
         ensures { result ≡ answers_of self.now x y };
@@ -55,7 +57,7 @@ fn same_pattern(x: f64, y: f64) -> bool
 
 // Whether a line is a case that the function answers bit by bit.
 pub fn agrees<F: Answers>(function: &F, line: &str) -> bool
-    ensures { result ≡ agrees_on (answers_of function.now) line.now }
+    ensures { result ≡ agrees_on (F.answers_of function.now) line.now }
 {
     match case_of(line) {
         Some(case) => {
@@ -89,7 +91,7 @@ impl Tally {
 
 // How many lines of a text agree with the function.
 pub fn compare<F: Answers>(function: &F, text: &str) -> Tally
-    ensures { result ≡ tally_of (answers_of function.now) text.now }
+    ensures { result ≡ tally_of (F.answers_of function.now) text.now }
 {
     let mut tally = Tally {
         cases: 0,

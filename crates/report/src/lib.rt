@@ -1,4 +1,6 @@
 // What is printed of a packed sheet that was drawn: its figures, or the first thing wrong with it.
+#![tactic(auto)]
+
 ghost use Rattle.std.specs.Prelude.{◌≡◌, IfOk, string_bytes};
 ghost use Rattle.report.specs.Reports.{layer_name, figures_text, fault_text, report_of};
 

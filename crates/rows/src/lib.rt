@@ -1,5 +1,7 @@
 // A row of records in the caller's storage, of which the first `count` slots are in use: one text
 // for every kind of record.
+#![tactic(auto)]
+
 ghost use Rattle.std.specs.Prelude.{◌≡◌};
 ghost use Rattle.rows.specs.Rows.{put_in, take_out};
 

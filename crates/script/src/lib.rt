@@ -1,4 +1,6 @@
 // A text of calls on an outline, one a line.
+#![tactic(auto)]
+
 ghost use Rattle.std.specs.Prelude.{◌≡◌, codes};
 ghost use Rattle.std.specs.Str.{bytes_eq};
 ghost use Rattle.script.specs.Lines.{Named, Makes, Says, ReadsAdd, ReadsMove, place_of, add_from, move_from, drop_from, only_if, measure_from, drop_of, back_of, measure_of};

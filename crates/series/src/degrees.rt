@@ -28,8 +28,8 @@ fn zero_signed(s: f64, x: f64) -> f64
 // Sine and cosine of x degrees: exact at whole quarter turns, as only the rest within an eighth turn
 // is given to the function set.
 pub fn sincosd<F: FunctionSet>(set: &F, x: f64) -> (f64, f64)
-    ensures sine { result.0 ≡ sind (funcs set.now) x }
-    ensures cosine { result.1 ≡ cosd (funcs set.now) x }
+    ensures sine { result.0 ≡ sind (F.funcs set.now) x }
+    ensures cosine { result.1 ≡ cosd (F.funcs set.now) x }
 {
     let (r, q) = remquo(x);
     let r = r.to_radians();
@@ -38,14 +38,14 @@ pub fn sincosd<F: FunctionSet>(set: &F, x: f64) -> (f64, f64)
 }
 
 fn near_axis<F: FunctionSet>(set: &F, y: f64, x: f64) -> f64
-    ensures { result ≡ near (funcs set.now) y x }
+    ensures { result ≡ near (F.funcs set.now) y x }
 {
     set.atan2(y, x).to_degrees()
 }
 
 // The angle of a point that is nearer to the axis of x.
 fn flat_angle<F: FunctionSet>(set: &F, y: f64, x: f64) -> f64
-    ensures { result ≡ flat (funcs set.now) y x }
+    ensures { result ≡ flat (F.funcs set.now) y x }
 {
     if x < 0.0 {
         let half = if y >= 0.0 { 180.0 } else { -180.0 };
@@ -57,7 +57,7 @@ fn flat_angle<F: FunctionSet>(set: &F, y: f64, x: f64) -> f64
 
 // The angle of a point that is nearer to the axis of y.
 fn steep_angle<F: FunctionSet>(set: &F, y: f64, x: f64) -> f64
-    ensures { result ≡ steep (funcs set.now) y x }
+    ensures { result ≡ steep (F.funcs set.now) y x }
 {
     if y < 0.0 {
         near_axis(set, x, -y) + -90.0
@@ -68,7 +68,7 @@ fn steep_angle<F: FunctionSet>(set: &F, y: f64, x: f64) -> f64
 
 // The angle of the point (x, y) in degrees.
 pub fn atan2d<F: FunctionSet>(set: &F, y: f64, x: f64) -> f64
-    ensures { result ≡ atan2d (funcs set.now) y x }
+    ensures { result ≡ atan2d (F.funcs set.now) y x }
 {
     if y.abs() > x.abs() {
         steep_angle(set, y, x)

@@ -1,5 +1,7 @@
 // Over any function set: angles and directions in degrees, trigonometric sums, the astroid problem;
 // and the expansions of the geodesic's integrals with their tables of coefficients.
+#![tactic(auto)]
+
 mod degrees;
 mod expansions;
 mod quartic;
@@ -19,8 +21,8 @@ pub use tables::{divisor, polyval_at, row};
 
 // A two-vector divided by its length.
 pub fn norm<F: FunctionSet>(set: &F, x: f64, y: f64) -> (f64, f64)
-    ensures first { result.0 ≡ norm_x (funcs set.now) x y }
-    ensures second { result.1 ≡ norm_y (funcs set.now) x y }
+    ensures first { result.0 ≡ norm_x (F.funcs set.now) x y }
+    ensures second { result.1 ≡ norm_y (F.funcs set.now) x y }
 {
     let r = set.hypot(x, y);
     (x / r, y / r)
@@ -29,7 +31,7 @@ pub fn norm<F: FunctionSet>(set: &F, x: f64, y: f64) -> (f64, f64)
 // e atanh(e x), es being the eccentricity e with the sign of the flattening: on a prolate ellipsoid
 // e is imaginary, and the arc tangent stands for the area tangent.
 pub fn eatanhe<F: FunctionSet>(set: &F, x: f64, es: f64) -> f64
-    ensures { result ≡ eatanhe (funcs set.now) x es }
+    ensures { result ≡ eatanhe (F.funcs set.now) x es }
 {
     if es > 0.0 {
         es * set.atanh(es * x)

@@ -25,7 +25,7 @@ fn cube_of_t(s: f64, r: f64) -> f64
 
 // The cubic's root where it has but one; T = 0 only where r = 0 too.
 fn one_root<F: FunctionSet>(set: &F, s: f64, r: f64) -> f64
-    ensures { result ≡ one_root (funcs set.now) s r }
+    ensures { result ≡ one_root (F.funcs set.now) s r }
 {
     let t = set.cbrt(cube_of_t(s, r));
     r + (t + if t == 0.0 { 0.0 } else { sq(r) / t })
@@ -34,7 +34,7 @@ fn one_root<F: FunctionSet>(set: &F, s: f64, r: f64) -> f64
 // Of the cubic's three roots the one of the largest size: T is complex, and a third of its angle is
 // taken.
 fn three_roots<F: FunctionSet>(set: &F, s: f64, r: f64) -> f64
-    ensures { result ≡ three_roots (funcs set.now) s r }
+    ensures { result ≡ three_roots (F.funcs set.now) s r }
 {
     let disc = discriminant_of(s, r);
     let ang = set.atan2(sqrt(-disc), -(s + r * sq(r)));
@@ -43,7 +43,7 @@ fn three_roots<F: FunctionSet>(set: &F, s: f64, r: f64) -> f64
 
 // A root u of the resolvent cubic.
 fn cubic_root<F: FunctionSet>(set: &F, s: f64, r: f64) -> f64
-    ensures { result ≡ resolvent (funcs set.now) s r }
+    ensures { result ≡ resolvent (F.funcs set.now) s r }
 {
     if discriminant_of(s, r) >= 0.0 {
         one_root(set, s, r)
@@ -72,7 +72,7 @@ fn positive_root(u: f64, q: f64) -> f64
 
 // The positive root κ of κ⁴ + 2κ³ + (1 - x² - y²)κ² - 2y²κ - y² = 0, or 0 where there is none.
 pub fn astroid<F: FunctionSet>(set: &F, x: f64, y: f64) -> f64
-    ensures { result ≡ astroid (funcs set.now) x y }
+    ensures { result ≡ astroid (F.funcs set.now) x y }
 {
     let p = sq(x);
     let q = sq(y);

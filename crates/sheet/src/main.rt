@@ -1,4 +1,5 @@
 // Draws a packed sheet from standard input and tells its figures, or the first thing wrong with it.
+#![tactic(auto)]
 
 use drawing::draw;
 use outline::{EditRecord, Station};

@@ -1,5 +1,7 @@
 // Stations and edit records, which the caller's rows hold: how a station is drawn from the point
 // before it, how an edit is noted, and when a record fits an outline.
+#![tactic(auto)]
+
 ghost use Rattle.std.specs.Prelude.{◌≡◌, ◌*◌, ◌<◌, ◌≤◌};
 ghost use Rattle.stations.specs.Stations.{point_of, first_station, next_station, redrawn, redrawn_twice, placed, moved, dropped};
 
@@ -59,7 +61,7 @@ impl Station {
 
     // A station at which the edge from another point arrives.
     pub fn next<S: Surface>(surface: &S, before: Point, at: Point) -> Station
-        ensures value { result ≡ next_station (edges surface.now) before at }
+        ensures value { result ≡ next_station (S.edges surface.now) before at }
         ensures few { result.evaluations ≤ 83 }
     {
         let edge = surface.edge(before.lat, before.lon, at.lat, at.lon);
@@ -76,8 +78,8 @@ impl Station {
 
 // Draws the station at `place` anew from the station before it, if it is among the first `count`.
 fn redraw<S: Surface>(surface: &S, stations: &mut [Station], count: usize, place: usize) -> Cost
-    ensures row { stations.new ≡ (redrawn (edges surface.now) stations.old count place).stations }
-    ensures cost { result ≡ (redrawn (edges surface.now) stations.old count place).cost }
+    ensures row { stations.new ≡ (redrawn (S.edges surface.now) stations.old count place).stations }
+    ensures cost { result ≡ (redrawn (S.edges surface.now) stations.old count place).cost }
     ensures few { (result.edges ≤ 1) × (result.evaluations ≤ 83 * result.edges) }
 {
     if place >= count || count > stations.len() {
@@ -111,8 +113,8 @@ fn redraw_twice<S: Surface>(
     place: usize,
 ) -> Cost
     requires { place < count }
-    ensures row { stations.new ≡ (redrawn_twice (edges surface.now) stations.old count place).stations }
-    ensures cost { result ≡ (redrawn_twice (edges surface.now) stations.old count place).cost }
+    ensures row { stations.new ≡ (redrawn_twice (S.edges surface.now) stations.old count place).stations }
+    ensures cost { result ≡ (redrawn_twice (S.edges surface.now) stations.old count place).cost }
     ensures few { (result.edges ≤ 2) × (result.evaluations ≤ 83 * result.edges) }
 {
     let here = redraw(surface, stations, count, place);
@@ -132,8 +134,8 @@ pub fn place_point<S: Surface>(
     place: usize,
     point: Point,
 ) -> Cost
-    ensures row { stations.new ≡ (placed (edges surface.now) stations.old count place point).stations }
-    ensures cost { result ≡ (placed (edges surface.now) stations.old count place point).cost }
+    ensures row { stations.new ≡ (placed (S.edges surface.now) stations.old count place point).stations }
+    ensures cost { result ≡ (placed (S.edges surface.now) stations.old count place point).cost }
     ensures few { (result.edges ≤ 2) × (result.evaluations ≤ 83 * result.edges) }
 {
     if place > count || count >= stations.len() {
@@ -155,8 +157,8 @@ pub fn shift_point<S: Surface>(
     place: usize,
     point: Point,
 ) -> Cost
-    ensures row { stations.new ≡ (moved (edges surface.now) stations.old count place point).stations }
-    ensures cost { result ≡ (moved (edges surface.now) stations.old count place point).cost }
+    ensures row { stations.new ≡ (moved (S.edges surface.now) stations.old count place point).stations }
+    ensures cost { result ≡ (moved (S.edges surface.now) stations.old count place point).cost }
     ensures few { (result.edges ≤ 2) × (result.evaluations ≤ 83 * result.edges) }
 {
     if place >= count || count > stations.len() {
@@ -177,8 +179,8 @@ pub fn remove_point<S: Surface>(
     count: usize,
     place: usize,
 ) -> Cost
-    ensures row { stations.new ≡ (dropped (edges surface.now) stations.old count place).stations }
-    ensures cost { result ≡ (dropped (edges surface.now) stations.old count place).cost }
+    ensures row { stations.new ≡ (dropped (S.edges surface.now) stations.old count place).stations }
+    ensures cost { result ≡ (dropped (S.edges surface.now) stations.old count place).cost }
     ensures few { (result.edges ≤ 1) × (result.evaluations ≤ 83 * result.edges) }
 {
     if place >= count || count > stations.len() {

@@ -1,5 +1,7 @@
 // Surfaces on which outlines are drawn: what an edge is, what a surface answers, why a call is
 // refused, and the plate carrée.
+#![tactic(auto)]
+
 ghost use Rattle.std.specs.Prelude.{◌≡◌, ◌≤◌, true, Float};
 ghost use Rattle.surface.specs.declared.Edge.{Edge};
 ghost use Rattle.surface.specs.Wholes.{whole_fits};

@@ -1,4 +1,6 @@
 // Text: the words of a line, decimal numbers, and bit patterns of floats in hexadecimal.
+#![tactic(auto)]
+
 ghost use Rattle.std.specs.Prelude.{◌≡◌, ◌<◌, ◌≤◌, ◌∷◌, length, if◌then◌else◌, Some, None, nat_lt};
 ghost use Rattle.std.specs.Str.Parse.{digits_value};
 ghost use Rattle.std.specs.Char.{digit_char, digit_value};

@@ -1,4 +1,6 @@
 // Replays lists of answers bit by bit: each name of the command line is a function and its list.
+#![tactic(auto)]
+
 mod functions;
 mod lists;
 

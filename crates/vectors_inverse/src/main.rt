@@ -1,5 +1,7 @@
 // Replays lists of answers of the inverse problem and of polygons: each name of the command line is a
 // list. Bit by bit, but for the list of GeographicLib's answers.
+#![tactic(auto)]
+
 mod counts;
 mod judges;
 mod lists;

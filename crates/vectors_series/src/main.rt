@@ -1,5 +1,7 @@
 // Replays lists of answers bit by bit: each name of the command line is a function of the series
 // set and its list.
+#![tactic(auto)]
+
 mod functions;
 
 use functions::Function;

@@ -1,5 +1,7 @@
 // Replays a list of packed sheets: each line has a sheet's bytes and what is printed of it. Every
 // sheet is drawn as the program `sheet` draws it, and what is printed is compared.
+#![tactic(auto)]
+
 use drawing::draw;
 use outline::{EditRecord, Station};
 use polygon::Point;

@@ -3,11 +3,11 @@ use borrow.Author.Tests.{eqb-false}
 use Rattle.floats.proofs.Polynomials.{horner-none, horner_more, rest_is, polynomial-none, polynomial_some}
 use Rattle.floats.proofs.polyval.Goals as goal
 
-pub returns-then-is-empty : goal.returns-then-is-empty
-returns-then-is-empty c = sym (polynomial-none c.args.x c.args.p.now (eqb-true (length c.args.p.now) 0 (sym c.if-is-empty.ensures)))
+pub returns-then-is_empty : goal.returns-then-is_empty
+returns-then-is_empty c = sym (polynomial-none c.args.x c.args.p.now (eqb-true (length c.args.p.now) 0 (sym c.if-is_empty.ensures)))
 
 pub loop-val-init : goal.loop-val-init
-loop-val-init c = rw (rest_is c.args.p.now) (polynomial_some c.args.x c.args.p.now (omega (arith, eqb-false (length c.args.p.now) 0 (sym c.if-is-empty.ensures))))
+loop-val-init c = rw (rest_is c.args.p.now) (polynomial_some c.args.x c.args.p.now (omega (arith, eqb-false (length c.args.p.now) 0 (sym c.if-is_empty.ensures))))
 
 pub loop-val-preserved : goal.loop-val-preserved
 loop-val-preserved c =

@@ -5,8 +5,8 @@ use Rattle.floats.proofs.sqrt.Goals as goal
 
 pub returns-in-Some : goal.returns-in-Some
 returns-in-Some c =
-    let value = root_by_pattern c.args.x c.in-Some.root c.f64-to-bits-with-nan-pattern.result c.well-formed.0.1 c.f64-to-bits-with-nan-pattern.ensures c.in-Some.ensures in
-    record { value = value; nearest = nearest_answer _ _ c.well-formed.0.1 value; other = other_answer _ _ value }
+    let value = root_by_pattern c.args.x c.in-Some.root c.f64_to_bits_with_nan-pattern.result c.well_formed.0.1 c.f64_to_bits_with_nan-pattern.ensures c.in-Some.ensures in
+    record { value = value; nearest = nearest_answer _ _ c.well_formed.0.1 value; other = other_answer _ _ c.well_formed.0.1 value }
 
 pub returns : goal.returns
-returns c = record { value = search rules; nearest = nearest_answer _ _ c.well-formed.0.1 (search rules); other = other_answer _ _ (search rules) }
+returns c = record { value = search rules; nearest = nearest_answer _ _ c.well_formed.0.1 (search rules); other = other_answer _ _ c.well_formed.0.1 (search rules) }

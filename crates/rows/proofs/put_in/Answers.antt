@@ -10,7 +10,7 @@ returns-then-count-row g c =
     let count = c.args.count in
     let place = c.args.place in
     let item = c.args.item in
-    ap (put_mid place (count + 1 - place) (set row count item)) c.rotate-right.ensures.after ∙ put_in_by_rotation row count place item c.if-place-count.true c.if-count-row.true ∙ sym (put_in_place row count place item c.if-place-count.true c.if-count-row.true)
+    ap (put_mid place (count + 1 - place) (set row count item)) c.rotate_right.ensures.after ∙ put_in_by_rotation row count place item c.if-place-count.true c.if-count-row.true ∙ sym (put_in_place row count place item c.if-place-count.true c.if-count-row.true)
 
 pub returns-else-place-count : goal.returns-else-place-count
 returns-else-place-count g c =

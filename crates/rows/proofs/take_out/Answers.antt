@@ -10,7 +10,7 @@ returns-then-count-row g c =
     let count = c.args.count in
     let place = c.args.place in
     let last = c.index-row-count.result in
-    ap (λ part. set (put_mid place (count - place) row part) (count - 1) last) c.rotate-left.ensures.after ∙ take_out_by_rotation row count place c.if-place-count.true c.if-count-row.true last c.index-row-count.is ∙ sym (take_out_place row count place c.if-place-count.true c.if-count-row.true)
+    ap (λ part. set (put_mid place (count - place) row part) (count - 1) last) c.rotate_left.ensures.after ∙ take_out_by_rotation row count place c.if-place-count.true c.if-count-row.true last c.index-row-count.is ∙ sym (take_out_place row count place c.if-place-count.true c.if-count-row.true)
 
 pub returns-else-place-count : goal.returns-else-place-count
 returns-else-place-count g c =

@@ -6,26 +6,26 @@ use Rattle.text.specs.Patterns.{hexadecimal}
 use Rattle.text.proofs.Digits.{chosen_some, chosen_none, hexadecimal_more, hexadecimal_not, value_more, digit_more, sixteen_fit}
 use Rattle.text.proofs.number_of.Goals as goal
 
-pub returns-in-err-digit : goal.returns-in-err-digit
-returns-in-err-digit c =
-    let not_digit = chosen_none _ _ c.in-err-digit.ensures in
+pub returns-in_err-digit : goal.returns-in_err-digit
+returns-in_err-digit c =
+    let not_digit = chosen_none _ _ c.in_err-digit.ensures in
     let not-all : hexadecimal c.args.digits.now ≡ false = sym c.loop-byte.invariant.0 ∙ hexadecimal_not c.args.digits.now c.loop-byte.byte-index (omega arith) not_digit in
-    c.from-residual.ensures ∙ sym (ap (λ b. cond b (Some (digits_value 16 c.args.digits.now)) None) not-all)
+    c.from_residual.ensures ∙ sym (ap (λ b. cond b (Some (digits_value 16 c.args.digits.now)) None) not-all)
 
 -- the digit that was read, and the number after it
 read : (c : goal.After-from) → (ltb (digit_value (get_or c.args.digits.now c.loop-byte.byte-index 0)) 16 ≡ true)
     × (c.from.result ≡ digit_value (get_or c.args.digits.now c.loop-byte.byte-index 0))
     × (c.loop-byte.number * 16 + c.from.result < 16 ^ suc c.loop-byte.byte-index)
 read c =
-    let h = chosen_some _ _ _ c.in-ok-digit.ensures in
+    let h = chosen_some _ _ _ c.in_ok-digit.ensures in
     let is = c.from.ensures ∙ h.1 in
     (h.0, is, digit_more c.loop-byte.number c.from.result c.loop-byte.byte-index c.loop-byte.invariant.2 (omega (arith, ltb-true _ _ h.0)))
 
-pub overflow-mul-number : goal.overflow-mul-number
-overflow-mul-number c = omega (arith, digit_more c.loop-byte.number 0 c.loop-byte.byte-index c.loop-byte.invariant.2 (omega arith), sixteen_fit (suc c.loop-byte.byte-index) (omega arith))
+pub overflow_mul-number : goal.overflow_mul-number
+overflow_mul-number c = omega (arith, digit_more c.loop-byte.number 0 c.loop-byte.byte-index c.loop-byte.invariant.2 (omega arith), sixteen_fit (suc c.loop-byte.byte-index) (omega arith))
 
-pub overflow-add-number : goal.overflow-add-number
-overflow-add-number c = omega (arith, (read c).2, sixteen_fit (suc c.loop-byte.byte-index) (omega arith))
+pub overflow_add-number : goal.overflow_add-number
+overflow_add-number c = omega (arith, (read c).2, sixteen_fit (suc c.loop-byte.byte-index) (omega arith))
 
 pub loop-byte-preserved : goal.loop-byte-preserved
 loop-byte-preserved c =

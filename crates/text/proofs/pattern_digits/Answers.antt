@@ -6,14 +6,14 @@ use Rattle.text.proofs.pattern_digits.Goals as goal
 
 pub loop-i-init : goal.loop-i-init
 unfolding pattern_digits
-loop-i-init c = (append-nil (hex_digits 16 _) ∙ ap (hex_digits 16) c.f64-to-bits-with-nan-rest.ensures, refl)
+loop-i-init c = (append-nil (hex_digits 16 _) ∙ ap (hex_digits 16) c.f64_to_bits_with_nan-rest.ensures, refl)
 
 pub loop-i-preserved : goal.loop-i-preserved
 loop-i-preserved c =
     let i : ℕ = c.loop-i.i - 1 in
     let back : suc i ≡ c.loop-i.i = omega arith in
     let within : i < length c.loop-i.digits = omega (arith, c.loop-i.invariant.1) in (
-      ap (λ d. hex_digits i (c.loop-i.rest / 16) ++ drop i (set c.loop-i.digits i d)) c.digit-char.ensures
+      ap (λ d. hex_digits i (c.loop-i.rest / 16) ++ drop i (set c.loop-i.digits i d)) c.digit_char.ensures
           ∙ hex_digits_more i c.loop-i.rest c.loop-i.digits within
           ∙ ap (λ k. hex_digits k c.loop-i.rest ++ drop k c.loop-i.digits) back
           ∙ c.loop-i.invariant.0,
@@ -26,4 +26,4 @@ written c =
     sym (ap (λ k. hex_digits k c.loop-i.rest ++ drop k c.loop-i.digits) none ∙ ap (λ l. l ++ c.loop-i.digits) (hex_digits-none c.loop-i.rest)) ∙ c.loop-i.invariant.0
 
 pub returns : goal.returns
-returns c = record { digits = written c; reads-back = ap pattern_of (written c) ∙ pattern_back c.args.x (search rules) }
+returns c = record { digits = written c; reads_back = ap pattern_of (written c) ∙ pattern_back c.args.x (search rules) }

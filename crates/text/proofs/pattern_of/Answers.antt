@@ -12,8 +12,8 @@ returns-then-text-ne16 c = grind (arith, nat_tests)
 
 pub returns-in-Some : goal.returns-in-Some
 returns-in-Some c =
-    ap Some c.f64-from-bits-with-nan.ensures
-    ∙ pattern_some c.args.text.now c.in-Some.bits (omega arith) (rw c.as-bytes.ensures.value at c.in-Some.ensures)
+    ap Some c.f64_from_bits_with_nan.ensures
+    ∙ pattern_some c.args.text.now c.in-Some.bits (omega arith) (rw c.as_bytes.ensures.value at c.in-Some.ensures)
 
 pub returns-in-None : goal.returns-in-None
-returns-in-None c = pattern_none c.args.text.now (omega arith) (rw c.as-bytes.ensures.value at c.in-None.ensures)
+returns-in-None c = pattern_none c.args.text.now (omega arith) (rw c.as_bytes.ensures.value at c.in-None.ensures)

@@ -6,5 +6,5 @@ use Rattle.functions.proofs.arcs.angle.Goals as goal
 pub returns : goal.returns
 returns c = record { value = search rules; standard = angle_by_standard }
 
-pub returns-then-is-nan : goal.returns-then-is-nan
-returns-then-is-nan c = record { value = search rules; standard = angle_by_standard }
+pub returns-then-is_nan : goal.returns-then-is_nan
+returns-then-is_nan c = record { value = search rules; standard = angle_by_standard }

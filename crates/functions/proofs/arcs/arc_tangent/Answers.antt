@@ -6,8 +6,8 @@ use Rattle.functions.proofs.arcs.arc_tangent.Goals as goal
 
 pub returns-then-x : goal.returns-then-x
 unfolding arc_tangent_of
-returns-then-x c = record { value = search rules; mirrored = arc_mirrored c.args.x; above-one = arc_above_one c.args.x }
+returns-then-x c = record { value = search rules; mirrored = arc_mirrored c.args.x; above_one = arc_above_one c.args.x }
 
 pub returns-else-x : goal.returns-else-x
 unfolding arc_tangent_of
-returns-else-x c = record { value = search rules; mirrored = arc_mirrored c.args.x; above-one = arc_above_one c.args.x }
+returns-else-x c = record { value = search rules; mirrored = arc_mirrored c.args.x; above_one = arc_above_one c.args.x }

@@ -12,5 +12,5 @@ nan_is_level nan e = refl
 nan_is_level (inf s) e = cc
 nan_is_level (fin s m k) e = cc
 
-pub returns-then-is-nan : goal.returns-then-is-nan
-returns-then-is-nan c = nan_is_level c.args.x (sym c.if-is-nan.ensures.value)
+pub returns-then-is_nan : goal.returns-then-is_nan
+returns-then-is_nan c = nan_is_level c.args.x (sym c.if-is_nan.ensures.value)

@@ -16,8 +16,8 @@ size-plus nan = refl
 size-plus (inf s) = refl
 size-plus (fin s m e) = refl
 
-pub root-of-size-requires : goal.root-of-size-requires
-root-of-size-requires c = record {
-  finite = ap float_is_finite c.abs.ensures.value ∙ size_finite c.args.x ∙ sym c.if-not-is-finite.ensures.value;
+pub root_of_size-requires : goal.root_of_size-requires
+root_of_size-requires c = record {
+  finite = ap float_is_finite c.abs.ensures.value ∙ size_finite c.args.x ∙ sym c.if-not-is_finite.ensures.value;
   plus = ap is_sign_negative c.abs.ensures.value ∙ size-plus c.args.x;
 }

@@ -10,7 +10,7 @@ returns c =
     let x = c.args.x in
     let t : T (fits binary64 x) = search rules in
     let is : c.place.result / 3 ≡ octave_of x =
-    ap (λ (k : ℕ). k / 3) (c.place.ensures ∙ ap place_of c.f64-to-bits-with-nan.ensures) ∙ octave_of_pattern x c.requires.finite c.requires.plus in
+    ap (λ (k : ℕ). k / 3) (c.place.ensures ∙ ap place_of c.f64_to_bits_with_nan.ensures) ∙ octave_of_pattern x c.requires.finite c.requires.plus in
     record {
       value = is;
       bound = subst (λ (k : ℕ). k < 700) (sym is) (octave_below x t c.requires.finite);

@@ -12,7 +12,7 @@ pub returns-then-j-lt52 : goal.returns-then-j-lt52
 returns-then-j-lt52 c =
     let j = c.args.j in
     let under : 2 ^ j < 2 ^ 64 = pow-lt {j = 64} (lt_of_lt_of_le c.if-j-lt52.true (lit≤ tt)) in
-    c.f64-from-bits-with-nan.ensures
+    c.f64_from_bits_with_nan.ensures
     ∙ ap (λ (b : ℕ). of_bits binary64 (b % 2 ^ 64)) (one-mul (2 ^ j))
     ∙ ap (of_bits binary64) (mod-eq_of_lt under)
     ∙ small_power j c.if-j-lt52.true
@@ -20,6 +20,6 @@ returns-then-j-lt52 c =
 pub returns-else-j-lt52 : goal.returns-else-j-lt52
 returns-else-j-lt52 c =
     let j = c.args.j in
-    c.f64-from-bits-with-nan-else-j-lt52.ensures
+    c.f64_from_bits_with_nan-else-j-lt52.ensures
     ∙ ap (of_bits binary64) (mod-eq_of_lt (within_word j c.if-j-lt52.false c.requires))
     ∙ large_power j c.if-j-lt52.false c.requires

@@ -5,4 +5,4 @@ use Rattle.series.proofs.expansions.◌C1f.Goals as goal
 
 pub returns : goal.returns
 unfolding C1f table_c1 of_bits of_int
-returns c = c.fourier-coefficients.ensures
+returns c = c.fourier_coefficients.ensures

@@ -12,12 +12,12 @@ loop-l-init c = (refl, lit≤ tt, refl)
 pub loop-l-preserved : goal.loop-l-preserved
 loop-l-preserved c =
     let t = c.args.table.now in let v = c.loop-l in let m = degree_of v.l in
-    let row = scaled_row_is c.args.eps v.d c.sq-eps2.result c.polyval-at.result c.divisor.result t v.o m c.sq-eps2.ensures c.polyval-at.ensures c.divisor.ensures in (
+    let row = scaled_row_is c.args.eps v.d c.sq-eps2.result c.polyval_at.result c.divisor.result t v.o m c.sq-eps2.ensures c.polyval_at.ensures c.divisor.ensures in (
       ap (λ (x : Float). take (v.l + 1) (set v.c v.l x) ++ coefficients c.args.eps (v.d ⊗ c.args.eps) (drop (v.o + (m + 2)) t) (v.l + 1) (7 - (v.l + 1))) row
           ∙ written c.args.eps v.d t v.c v.o v.l (7 - v.l) (7 - (v.l + 1)) (left_over v.l (omega arith)) (omega arith)
           ∙ v.invariant.0,
       passed v.o v.l v.auto.l v.invariant.1,
-      length-set v.c v.l (v.d ⊗ c.polyval-at.result ⊘ c.divisor.result) ∙ v.invariant.2,
+      length-set v.c v.l (v.d ⊗ c.polyval_at.result ⊘ c.divisor.result) ∙ v.invariant.2,
     )
 
 pub returns : goal.returns

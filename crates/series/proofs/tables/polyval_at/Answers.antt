@@ -6,4 +6,4 @@ use Rattle.series.proofs.tables.polyval_at.Goals as goal
 pub returns-else-m-rest : goal.returns-else-m-rest
 returns-else-m-rest c =
     c.polyval-else-m-rest.ensures
-    ∙ polynomial_short c.args.x c.args.table.now c.rest-from-rest.result.now c.args.at c.args.m c.rest-from-rest.ensures c.if-m-rest.false
+    ∙ polynomial_short c.args.x c.args.table.now c.rest_from-rest.result.now c.args.at c.args.m c.rest_from-rest.ensures c.if-m-rest.false
