@@ -13,5 +13,5 @@ use Rattle.geodesic.specs.Shapes.{shape_refusal}
 use Rattle.drawing.specs.Surfaces.{surface_refusal, Stand}
 
 pub stand : Stand
-unfolding surface_refusal shape_refusal whole_of ellipsoid c2_of eatanhe polynomial horner area_terms down_from sign_of Floats.sqrt Floats.twice-sqrt-sticky Floats.isqrt-below Floats.float_is_finite Floats.float_with_sign of_int of_bits of_fields neg add sub mul div rem Ieee.sum round units size span climb lt le eq Ieee.odd count_trailing_zeros
+unfolding surface_refusal shape_refusal whole_of ellipsoid c2_of eatanhe polynomial horner area_terms down_from sign_of Floats.sqrt Ieee.root_twice Ieee.root_below Floats.float_is_finite Floats.float_with_sign of_int of_bits of_fields neg add sub mul div rem Ieee.sum round units size span climb lt le eq Ieee.odd count_trailing_zeros
 stand = record { ellipsoid_stands = refl; plate_stands = refl }

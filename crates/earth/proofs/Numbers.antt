@@ -44,7 +44,7 @@ b_is = refl
 -- ---- the authalic radius
 
 root_is : root (float_with_sign false (bits 0x3f7b6b90f1fe94f0)) ≡ bits 0x3fb4f21a3cdaaf9a
-unfolding Floats.sqrt Floats.twice-sqrt-sticky Floats.isqrt-below of_int of_bits of_fields neg add sub mul div Ieee.sum round units size span climb lt le eq is_nan Ieee.odd count_trailing_zeros Floats.float_with_sign Floats.is_sign_negative Floats.float_is_finite
+unfolding Floats.sqrt Ieee.root_twice Ieee.root_below of_int of_bits of_fields neg add sub mul div Ieee.sum round units size span climb lt le eq is_nan Ieee.odd count_trailing_zeros Floats.float_with_sign Floats.is_sign_negative Floats.float_is_finite
 root_is = refl
 
 signed_is : cond (wgs84_f ≺ zero) (neg one) one ⊗ bits 0x3fb4f21a3cdaaf9a ≡ bits 0x3fb4f21a3cdaaf9a
@@ -86,7 +86,7 @@ unfolding of_int of_bits of_fields neg add sub mul div Ieee.sum round units size
 half_is = refl
 
 half_root_is : root (bits 0x3f5b6b90f1fe94f0) ≡ bits 0x3fa4f21a3cdaaf9a
-unfolding Floats.sqrt Floats.twice-sqrt-sticky Floats.isqrt-below of_int of_bits of_fields neg add sub mul div Ieee.sum round units size span climb lt le eq is_nan Ieee.odd count_trailing_zeros Floats.float_with_sign Floats.is_sign_negative Floats.float_is_finite
+unfolding Floats.sqrt Ieee.root_twice Ieee.root_below of_int of_bits of_fields neg add sub mul div Ieee.sum round units size span climb lt le eq is_nan Ieee.odd count_trailing_zeros Floats.float_with_sign Floats.is_sign_negative Floats.float_is_finite
 half_root_is = refl
 
 short_is : tenth ⊗ tol2 ⊘ bits 0x3fa4f21a3cdaaf9a ≡ bits 0x3e638e291574bf71

@@ -25,7 +25,7 @@ unfolding transit_of ang_normalize ang_diff ang_diff_error Floats.float_is_finit
 transits = record { date_line = refl; eastward = refl; westward = refl; half_way = refl }
 
 plate : PlateExamples
-unfolding figures_of edges_from open_edges first_of last_after added_to counted_to plate_edge transit_of reduced_area ang_normalize ang_diff ang_diff_error Floats.sqrt Floats.twice-sqrt-sticky Floats.isqrt-below Floats.float_is_finite Floats.float_with_sign of_int of_bits of_fields neg add sub mul div rem Ieee.sum round units size span climb lt le eq Ieee.odd count_trailing_zeros
+unfolding figures_of edges_from open_edges first_of last_after added_to counted_to plate_edge transit_of reduced_area ang_normalize ang_diff ang_diff_error Floats.sqrt Ieee.root_twice Ieee.root_below Floats.float_is_finite Floats.float_with_sign of_int of_bits of_fields neg add sub mul div rem Ieee.sum round units size span climb lt le eq Ieee.odd count_trailing_zeros
 plate = record { signed = refl; unsigned = refl }
 
 pub examples : Examples

@@ -24,12 +24,12 @@ returns g c =
     let row = c.args.stations.now in
     let count = c.args.count in
     let place = c.args.place in
-    let put : c.put-in.new.row ≡ put_in row count place (first_station c.args.point) =
-    c.put-in.ensures ∙ ap (put_in row count place) c.first.ensures in
-    let e : redrawn_twice edge c.put-in.new.row (count + 1) place ≡ placed edge row count place c.args.point =
+    let put : c.put_in.new.row ≡ put_in row count place (first_station c.args.point) =
+    c.put_in.ensures ∙ ap (put_in row count place) c.first.ensures in
+    let e : redrawn_twice edge c.put_in.new.row (count + 1) place ≡ placed edge row count place c.args.point =
     ap (λ l. redrawn_twice edge l (count + 1) place) put ∙ sym (placed_room edge row count place c.args.point (room row count place c.if-place-count.false c.if-count-stations.false)) in
     record {
-      row = c.redraw-twice.ensures.row ∙ ap (λ (d : Drawing). d.stations) e;
-      cost = c.redraw-twice.ensures.cost ∙ ap (λ (d : Drawing). d.cost) e;
-      few = c.redraw-twice.ensures.few;
+      row = c.redraw_twice.ensures.row ∙ ap (λ (d : Drawing). d.stations) e;
+      cost = c.redraw_twice.ensures.cost ∙ ap (λ (d : Drawing). d.cost) e;
+      few = c.redraw_twice.ensures.few;
     }

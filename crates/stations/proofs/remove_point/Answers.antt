@@ -22,8 +22,8 @@ returns g c =
     let row = c.args.stations.now in
     let count = c.args.count in
     let place = c.args.place in
-    let e : redrawn edge c.take-out.new.row (count - 1) place ≡ dropped edge row count place =
-    ap (λ l. redrawn edge l (count - 1) place) c.take-out.ensures ∙ sym (dropped_used edge row count place (used row count place c.if-place-count.false c.if-count-stations.false)) in
+    let e : redrawn edge c.take_out.new.row (count - 1) place ≡ dropped edge row count place =
+    ap (λ l. redrawn edge l (count - 1) place) c.take_out.ensures ∙ sym (dropped_used edge row count place (used row count place c.if-place-count.false c.if-count-stations.false)) in
     record {
       row = c.redraw.ensures.row ∙ ap (λ (d : Drawing). d.stations) e;
       cost = c.redraw.ensures.cost ∙ ap (λ (d : Drawing). d.cost) e;

@@ -25,7 +25,7 @@ returns g c =
     let e : redrawn_twice edge (set row place c.first.result) count place ≡ moved edge row count place c.args.point =
     ap (λ x. redrawn_twice edge (set row place x) count place) c.first.ensures ∙ sym (moved_used edge row count place (used row count place c.if-place-count.false c.if-count-stations.false) c.args.point) in
     record {
-      row = c.redraw-twice.ensures.row ∙ ap (λ (d : Drawing). d.stations) e;
-      cost = c.redraw-twice.ensures.cost ∙ ap (λ (d : Drawing). d.cost) e;
-      few = c.redraw-twice.ensures.few;
+      row = c.redraw_twice.ensures.row ∙ ap (λ (d : Drawing). d.stations) e;
+      cost = c.redraw_twice.ensures.cost ∙ ap (λ (d : Drawing). d.cost) e;
+      few = c.redraw_twice.ensures.few;
     }

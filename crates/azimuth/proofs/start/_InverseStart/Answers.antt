@@ -1,7 +1,7 @@
 -- Each way is one case of the definition.
 use Rattle.std.proofs.Common.{rules}
 use Rattle.azimuth.specs.Start.{inverse_start, start_at}
-use Rattle.azimuth.proofs.start.◌InverseStart.Goals as goal
+use Rattle.azimuth.proofs.start._InverseStart.Goals as goal
 
 pub returns-then-hypot-shape : goal.returns-then-hypot-shape
 unfolding inverse_start start_at

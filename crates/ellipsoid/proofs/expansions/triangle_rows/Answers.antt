@@ -14,9 +14,9 @@ loop-l-init g c =
 pub loop-l-preserved : goal.loop-l-preserved
 loop-l-preserved g c =
     let v = c.loop-l in let m = g.row.N - v.l - 1 in (
-      rw (← triangle-next g.row.N v.l) (triangle_put c.args.x v.power c.polyval-at.result c.args.table.now v.values _ v.o v.l (g.row.N - v.l) m (triangle_left g.row.N v.l (omega arith)) (omega arith) c.polyval-at.ensures v.invariant.0),
+      rw (← triangle-next g.row.N v.l) (triangle_put c.args.x v.power c.polyval_at.result c.args.table.now v.values _ v.o v.l (g.row.N - v.l) m (triangle_left g.row.N v.l (omega arith)) (omega arith) c.polyval_at.ensures v.invariant.0),
       triangle_passed v.o g.row.N v.l c.requires v.invariant.1,
-      length-set v.values v.l (mul binary64 v.power c.polyval-at.result) ∙ v.invariant.2,
+      length-set v.values v.l (mul binary64 v.power c.polyval_at.result) ∙ v.invariant.2,
     )
 
 pub returns : goal.returns

@@ -5,7 +5,7 @@ use Rattle.floats.specs.Arithmetic.{◌⊕◌, ◌⊖◌, ◌⊘◌}
 use Rattle.geomath.specs.Angles.{one, square}
 use Rattle.series.specs.Tables.{row_at}
 use Rattle.series.specs.Expansions.{A1m1f, table_a1}
-use Rattle.series.proofs.expansions.◌A1m1f.Goals as goal
+use Rattle.series.proofs.expansions._A1m1f.Goals as goal
 
 pub returns : goal.returns
 unfolding A1m1f table_a1 of_bits of_int

@@ -5,7 +5,7 @@ use Rattle.floats.specs.Arithmetic.{◌⊕◌, ◌⊖◌, ◌⊘◌}
 use Rattle.geomath.specs.Angles.{one, square}
 use Rattle.series.specs.Tables.{row_at}
 use Rattle.series.specs.Expansions.{A2m1f, table_a2}
-use Rattle.series.proofs.expansions.◌A2m1f.Goals as goal
+use Rattle.series.proofs.expansions._A2m1f.Goals as goal
 
 pub returns : goal.returns
 unfolding A2m1f table_a2 of_bits of_int

@@ -1,7 +1,7 @@
 -- The table holds the whole numbers that the definition names.
 use lib.Ieee.{of_bits, of_int}
 use Rattle.series.specs.Expansions.{C1f, table_c1}
-use Rattle.series.proofs.expansions.◌C1f.Goals as goal
+use Rattle.series.proofs.expansions._C1f.Goals as goal
 
 pub returns : goal.returns
 unfolding C1f table_c1 of_bits of_int

@@ -23,8 +23,8 @@ returns g c =
     let more = few_more t.crossings c.transit.result t.num s.few c.transit.ensures.size in
     let sum = few_read (t.crossings +ℤ c.transit.result) (t.num + 1) more (omega arith) in
     let crossed = c.transit.ensures.value in
-    let reduced = c.reduce-area.ensures.value in
-    let area-is : c.reduce-area.result ≡ (closed edges whole s.winding c.args.sign t).area = cc in
+    let reduced = c.reduce_area.ensures.value in
+    let area-is : c.reduce_area.result ≡ (closed edges whole s.winding c.args.sign t).area = cc in
     let fit : T (fits binary64 c.area.result) = search rules in
     record {
       value = cc;
