@@ -7,7 +7,7 @@ ghost use Rattle.packed.specs.Faults.{told, in_edit};
 use surface::Refusal;
 
 // A fault of the bits.
-#[derive(Clone, Copy)]
+#[derive(Clone, Copy, PartialEq, Eq, Debug)]
 pub enum BitFault {
     // the file ends before the field that begins at `bit` does
     Ends { bit: usize },
@@ -16,7 +16,7 @@ pub enum BitFault {
 }
 
 // A fault of a field.
-#[derive(Clone, Copy)]
+#[derive(Clone, Copy, PartialEq, Eq, Debug)]
 pub enum FieldFault {
     Bits(BitFault),
     // an edition that is not known
@@ -30,7 +30,7 @@ pub enum FieldFault {
 }
 
 // A fault of a field, with the edit in which it stands: 0 is the header.
-#[derive(Clone, Copy)]
+#[derive(Clone, Copy, PartialEq, Eq, Debug)]
 pub struct EditFault {
     pub edit: u16,
     pub fault: FieldFault,
@@ -65,7 +65,7 @@ impl From<EditFault> for SheetFault {
 }
 
 // The layer at which a fault was found.
-#[derive(Clone, Copy)]
+#[derive(Clone, Copy, PartialEq, Eq, Debug)]
 pub enum Layer {
     Bits,
     Field,
@@ -74,7 +74,7 @@ pub enum Layer {
 
 // What is told of a fault: its layer, its number, the edit, counted from 1, and the bit, counted
 // from 0.
-#[derive(Clone, Copy)]
+#[derive(Clone, Copy, PartialEq, Eq, Debug)]
 pub struct Told {
     pub layer: Layer,
     pub number: u8,

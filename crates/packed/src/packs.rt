@@ -11,7 +11,7 @@ use std::alloc::{AllocError, Global};
 use std::num::f64_to_bits_with_nan;
 
 // Why a sheet is not packed.
-#[derive(Clone, Copy)]
+#[derive(Clone, Copy, PartialEq, Eq, Debug)]
 pub enum PackFault {
     // the header has another number of edits
     Count,

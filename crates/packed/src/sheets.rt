@@ -10,7 +10,7 @@ use area::Winding;
 use std::num::f64_from_bits_with_nan;
 
 // The surface on which a sheet is drawn.
-#[derive(Clone, Copy)]
+#[derive(Clone, Copy, PartialEq, Eq, Debug)]
 pub enum SurfaceKind {
     // the ellipsoid WGS84, on the series set of functions
     Wgs84,
@@ -28,7 +28,7 @@ pub struct Header {
 }
 
 // An edit of a sheet.
-#[derive(Clone, Copy)]
+#[derive(Clone, Copy, PartialEq, Debug)]
 pub enum Edit {
     Add { lat: f64, lon: f64 },
     Move { place: u16, lat: f64, lon: f64 },

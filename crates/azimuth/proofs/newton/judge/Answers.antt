@@ -3,9 +3,9 @@ use Rattle.std.proofs.Common.{rules}
 use Rattle.azimuth.specs.Newton.{judged}
 use Rattle.azimuth.proofs.newton.judge.Goals as goal
 
-pub returns-then-has-converged : goal.returns-then-has-converged
+pub returns-then-has_converged : goal.returns-then-has_converged
 unfolding judged
-returns-then-has-converged g c = search rules
+returns-then-has_converged g c = search rules
 
 pub returns : goal.returns
 unfolding judged

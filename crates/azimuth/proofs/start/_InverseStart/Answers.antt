@@ -7,6 +7,6 @@ pub returns-then-hypot-shape : goal.returns-then-hypot-shape
 unfolding inverse_start start_at
 returns-then-hypot-shape g c = search rules
 
-pub returns-else-is-short-line : goal.returns-else-is-short-line
+pub returns-else-is_short_line : goal.returns-else-is_short_line
 unfolding inverse_start start_at
-returns-else-is-short-line g c = search rules
+returns-else-is_short_line g c = search rules

@@ -3,10 +3,10 @@ use Rattle.std.proofs.Common.{rules}
 use Rattle.azimuth.specs.Start.{short_line}
 use Rattle.azimuth.proofs.start.is_short_line.Goals as goal
 
-pub returns-then-sin-difference : goal.returns-then-sin-difference
+pub returns-then-sin_difference : goal.returns-then-sin_difference
 unfolding short_line
-returns-then-sin-difference c = search rules
+returns-then-sin_difference c = search rules
 
-pub returns-else-sin-difference : goal.returns-else-sin-difference
+pub returns-else-sin_difference : goal.returns-else-sin_difference
 unfolding short_line
-returns-else-sin-difference c = search rules
+returns-else-sin_difference c = search rules

@@ -3,10 +3,10 @@ use Rattle.std.proofs.Common.{rules}
 use Rattle.azimuth.specs.Start.{settled}
 use Rattle.azimuth.proofs.start.settle.Goals as goal
 
-pub returns-then-is-nan : goal.returns-then-is-nan
+pub returns-then-is_nan : goal.returns-then-is_nan
 unfolding settled
-returns-then-is-nan g c = search rules
+returns-then-is_nan g c = search rules
 
-pub returns-else-is-nan : goal.returns-else-is-nan
+pub returns-else-is_nan : goal.returns-else-is_nan
 unfolding settled
-returns-else-is-nan g c = search rules
+returns-else-is_nan g c = search rules

@@ -3,10 +3,10 @@ use Rattle.std.proofs.Common.{rules}
 use Rattle.inverse.specs.Paths.{path_of}
 use Rattle.inverse.proofs.paths.path_of.Goals as goal
 
-pub returns-then-is-on-meridian : goal.returns-then-is-on-meridian
+pub returns-then-is_on_meridian : goal.returns-then-is_on_meridian
 unfolding path_of
-returns-then-is-on-meridian g c = search rules
+returns-then-is_on_meridian g c = search rules
 
-pub returns-else-is-on-meridian : goal.returns-else-is-on-meridian
+pub returns-else-is_on_meridian : goal.returns-else-is_on_meridian
 unfolding path_of
-returns-else-is-on-meridian g c = search rules
+returns-else-is_on_meridian g c = search rules

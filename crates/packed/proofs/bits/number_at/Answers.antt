@@ -16,14 +16,14 @@ more bytes at i n b e below is = (
 fits-number : (i n : ℕ) → i < 64 → n < 2 ^ suc i → n < 2 ^ 64
 fits-number i n h k = omega (arith, pow_mono {i = suc i} {j = 64} h)
 
-pub overflow-mul-number : goal.overflow-mul-number
-overflow-mul-number c = omega (arith, fits-number c.loop-i.i (2 * c.loop-i.number + 0) (omega (arith, c.requires.small)) (one_more_below c.loop-i.number 0 c.loop-i.i c.loop-i.invariant.1 (omega arith)))
+pub overflow_mul-number : goal.overflow_mul-number
+overflow_mul-number c = omega (arith, fits-number c.loop-i.i (2 * c.loop-i.number + 0) (omega (arith, c.requires.small)) (one_more_below c.loop-i.number 0 c.loop-i.i c.loop-i.invariant.1 (omega arith)))
 
-pub overflow-add-number : goal.overflow-add-number
-overflow-add-number c =
-    let h = more c.args.bytes.now c.args.at c.loop-i.i c.loop-i.number c.from.result c.loop-i.invariant.0 c.loop-i.invariant.1 (c.from.ensures ∙ c.bit-at.ensures) in
+pub overflow_add-number : goal.overflow_add-number
+overflow_add-number c =
+    let h = more c.args.bytes.now c.args.at c.loop-i.i c.loop-i.number c.from.result c.loop-i.invariant.0 c.loop-i.invariant.1 (c.from.ensures ∙ c.bit_at.ensures) in
     omega (arith, fits-number c.loop-i.i (2 * c.loop-i.number + c.from.result) (omega (arith, c.requires.small)) h.1)
 
 pub loop-i-preserved : goal.loop-i-preserved
 loop-i-preserved c =
-    rw add-one (more c.args.bytes.now c.args.at c.loop-i.i c.loop-i.number c.from.result c.loop-i.invariant.0 c.loop-i.invariant.1 (c.from.ensures ∙ c.bit-at.ensures))
+    rw add-one (more c.args.bytes.now c.args.at c.loop-i.i c.loop-i.number c.from.result c.loop-i.invariant.0 c.loop-i.invariant.1 (c.from.ensures ∙ c.bit_at.ensures))

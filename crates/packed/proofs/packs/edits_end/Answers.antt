@@ -9,23 +9,23 @@ use Rattle.packed.proofs.packs.edits_end.Goals as goal
 zero_more : {n : ℕ} (a : ℕ) → n ≡ 0 → a ≡ a + n
 zero_more a h = omega arith
 
-pub returns-then-not-place-fits : goal.returns-then-not-place-fits
-returns-then-not-place-fits c =
+pub returns-then-not-place_fits : goal.returns-then-not-place_fits
+returns-then-not-place_fits c =
     record {
       end =
-          sym (end_from c.args.edits.now c.loop-edit.edit-index _ c.loop-edit.at c.loop-edit-test.true ∙ end_misplaced c.loop-edit.at _ _ (sym c.if-not-place-fits.ensures.value))
+          sym (end_from c.args.edits.now c.loop-edit.edit-index _ c.loop-edit.at c.loop-edit-test.true ∙ end_misplaced c.loop-edit.at _ _ (sym c.if-not-place_fits.ensures.value))
           ∙ c.loop-edit.invariant.0;
       near = tt;
       fitting = tt;
     }
 
-pub returns-then-at-gt-MOST-BITS : goal.returns-then-at-gt-MOST-BITS
-returns-then-at-gt-MOST-BITS c =
+pub returns-then-at-gt-MOST_BITS : goal.returns-then-at-gt-MOST_BITS
+returns-then-at-gt-MOST_BITS c =
     record {
       end =
           sym (
           end_from c.args.edits.now c.loop-edit.edit-index _ c.loop-edit.at c.loop-edit-test.true
-          ∙ end_long c.loop-edit.at _ _ (sym c.if-not-place-fits.ensures.value) (subst (λ w. 524288 < c.loop-edit.at + w) c.width-of-at.ensures c.if-at-gt-MOST-BITS.true)
+          ∙ end_long c.loop-edit.at _ _ (sym c.if-not-place_fits.ensures.value) (subst (λ w. 524288 < c.loop-edit.at + w) c.width_of-at.ensures c.if-at-gt-MOST_BITS.true)
           )
           ∙ c.loop-edit.invariant.0;
       near = tt;
@@ -35,20 +35,20 @@ returns-then-at-gt-MOST-BITS c =
 pub loop-edit-preserved : goal.loop-edit-preserved
 loop-edit-preserved c = (
   rw add-one (
-      ap (λ w. packed_end (c.loop-edit.at + w) (drop (suc c.loop-edit.edit-index) c.args.edits.now)) c.width-of-at.ensures
+      ap (λ w. packed_end (c.loop-edit.at + w) (drop (suc c.loop-edit.edit-index) c.args.edits.now)) c.width_of-at.ensures
       ∙ sym (
       end_from c.args.edits.now c.loop-edit.edit-index _ c.loop-edit.at c.loop-edit-test.true
-      ∙ end_more c.loop-edit.at _ _ (sym c.if-not-place-fits.ensures.value) (subst (λ w. c.loop-edit.at + w ≤ 524288) c.width-of-at.ensures c.if-at-gt-MOST-BITS.false)
+      ∙ end_more c.loop-edit.at _ _ (sym c.if-not-place_fits.ensures.value) (subst (λ w. c.loop-edit.at + w ≤ 524288) c.width_of-at.ensures c.if-at-gt-MOST_BITS.false)
       )
       ∙ c.loop-edit.invariant.0
       ),
-  c.if-at-gt-MOST-BITS.false,
-  rw (add-one, c.width-of-at.ensures) (
+  c.if-at-gt-MOST_BITS.false,
+  rw (add-one, c.width_of-at.ensures) (
       add_assoc c.loop-edit.at _ (length (edits_digits (drop (suc c.loop-edit.edit-index) c.args.edits.now)))
       ∙ ap (λ n. c.loop-edit.at + n) (sym (length_edits_from c.args.edits.now c.loop-edit.edit-index _ c.loop-edit-test.true))
       ∙ c.loop-edit.invariant.2
       ),
-  All-more Fitting c.args.edits.now c.loop-edit.edit-index _ c.loop-edit-test.true c.loop-edit.invariant.3 (sym c.if-not-place-fits.ensures.value, c.if-not-place-fits.ensures.floats),
+  All-more Fitting c.args.edits.now c.loop-edit.edit-index _ c.loop-edit-test.true c.loop-edit.invariant.3 (sym c.if-not-place_fits.ensures.value, c.if-not-place_fits.ensures.floats),
 )
 
 pub returns : goal.returns

@@ -6,8 +6,8 @@ use Rattle.packed.proofs.packs.put_edits.Goals as goal
 inside : (at w rest all room : ℕ) → at + (w + rest) ≡ 24 + all → 24 + all ≤ 8 * room → at + w ≤ 8 * room
 inside at w rest all room e h = omega arith
 
-pub put-edit-requires : goal.put-edit-requires
-put-edit-requires c =
+pub put_edit-requires : goal.put_edit-requires
+put_edit-requires c =
     record {
       inside =
           inside c.loop-edit.at _ (length (edits_digits (drop (suc c.loop-edit.edit-index) c.args.edits.now))) (length (edits_digits c.args.edits.now)) (length c.loop-edit.bytes)
@@ -22,8 +22,8 @@ put-edit-requires c =
 pub loop-edit-preserved : goal.loop-edit-preserved
 loop-edit-preserved c =
     let rest = edits_digits (drop (suc c.loop-edit.edit-index) c.args.edits.now) in
-    rw (add-one, c.width-of-at.ensures) (
-      then_edit c.loop-edit.bytes c.put-edit.new.bytes c.loop-edit.at _ rest c.put-edit.ensures
+    rw (add-one, c.width_of-at.ensures) (
+      then_edit c.loop-edit.bytes c.put_edit.new.bytes c.loop-edit.at _ rest c.put_edit.ensures
           ∙ ap (with_digits c.loop-edit.bytes c.loop-edit.at) (sym (edits_from c.args.edits.now c.loop-edit.edit-index _ c.loop-edit-test.true))
           ∙ c.loop-edit.invariant.0,
       add_assoc c.loop-edit.at _ (length rest)

@@ -17,8 +17,8 @@ loop-i-preserved c =
     let left = c.args.width - (c.loop-i.i + 1) in
     let k = c.args.at + c.loop-i.i in
     let p = places c.args.at c.loop-i.i c.args.width c.loop-i-test.true in
-    ap (λ j. with_digits c.put-bit.new.bytes j (digits_of left number)) p.0
-    ∙ ap (λ b. with_digits b (suc k) (digits_of left number)) c.put-bit.ensures
+    ap (λ j. with_digits c.put_bit.new.bytes j (digits_of left number)) p.0
+    ∙ ap (λ b. with_digits b (suc k) (digits_of left number)) c.put_bit.ensures
     ∙ ap (λ j. with_digits (with_bit c.loop-i.bytes k (number / 2 ^ j % 2)) (suc k) (digits_of left number)) p.1
     ∙ sym (with_more c.loop-i.bytes k (number / 2 ^ left % 2) (digits_of left number))
     ∙ ap (with_digits c.loop-i.bytes k) (sym (ap (λ w. digits_of w number) p.2 ∙ digits_more left number))

@@ -5,8 +5,8 @@ use Rattle.packed.proofs.packs.put_header.Goals as goal
 pub returns : goal.returns
 unfolding header_digits
 returns c =
-    rw (← c.winding-bit.ensures, ← c.signed-bit.ensures, ← c.surface-bits.ensures, ← c.from.ensures)
-    (then_field _ _ _ _ _ _ _ c.put-field.ensures
-    (then_field _ _ _ _ _ _ _ c.put-field-2.ensures
-    (then_field _ _ _ _ _ _ _ c.put-field-3.ensures
-    (then_field _ _ _ _ _ _ _ c.put-field-4.ensures c.put-field-5.ensures))))
+    rw (← c.winding_bit.ensures, ← c.signed_bit.ensures, ← c.surface_bits.ensures, ← c.from.ensures)
+    (then_field _ _ _ _ _ _ _ c.put_field.ensures
+    (then_field _ _ _ _ _ _ _ c.put_field-2.ensures
+    (then_field _ _ _ _ _ _ _ c.put_field-3.ensures
+    (then_field _ _ _ _ _ _ _ c.put_field-4.ensures c.put_field-5.ensures))))

@@ -18,16 +18,16 @@ loop-i-preserved c =
     let k = c.args.at + c.loop-i.i in
     let left = c.args.count - (c.loop-i.i + 1) in
     ap (λ p. first_one bytes p left) (let e : c.args.at + (c.loop-i.i + 1) ≡ suc k = omega arith in e)
-    ∙ sym (first_later bytes k left (λ one. c.if-bit-at-eq1.false (c.bit-at.ensures ∙ one)))
+    ∙ sym (first_later bytes k left (λ one. c.if-bit_at-eq1.false (c.bit_at.ensures ∙ one)))
     ∙ ap (first_one bytes k) (sym (one_left c.args.count c.loop-i.i c.loop-i-test.true))
     ∙ c.loop-i.invariant
 
-pub returns-then-bit-at-eq1 : goal.returns-then-bit-at-eq1
-returns-then-bit-at-eq1 c =
+pub returns-then-bit_at-eq1 : goal.returns-then-bit_at-eq1
+returns-then-bit_at-eq1 c =
     let bytes = c.args.bytes.now in
     let k = c.args.at + c.loop-i.i in
     let left = c.args.count - (c.loop-i.i + 1) in
-    sym (first_here bytes k left (sym c.bit-at.ensures ∙ c.if-bit-at-eq1.true))
+    sym (first_here bytes k left (sym c.bit_at.ensures ∙ c.if-bit_at-eq1.true))
     ∙ ap (first_one bytes k) (sym (one_left c.args.count c.loop-i.i c.loop-i-test.true))
     ∙ c.loop-i.invariant
 

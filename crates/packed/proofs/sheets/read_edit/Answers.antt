@@ -3,10 +3,10 @@ use Rattle.packed.specs.Sheets.{edit_of}
 use Rattle.packed.proofs.Exits.{leaves}
 use Rattle.packed.proofs.sheets.read_edit.Goals as goal
 
-pub returns-in-err-read : goal.returns-in-err-read
+pub returns-in_err-read : goal.returns-in_err-read
 unfolding edit_of
-returns-in-err-read c = rw (← c.in-err-read.ensures) (leaves c.from-residual.result (Bits c.in-err-read.field-0.0) c.from-residual.ensures.1)
+returns-in_err-read c = rw (← c.in_err-read.ensures) (leaves c.from_residual.result (Bits c.in_err-read.field-0.0) c.from_residual.ensures.1)
 
 pub returns : goal.returns
 unfolding edit_of
-returns c = rw (← c.in-ok-read.ensures)
+returns c = rw (← c.in_ok-read.ensures)

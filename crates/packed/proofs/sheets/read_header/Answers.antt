@@ -6,13 +6,13 @@ use Rattle.packed.proofs.Examples.{examples}
 use Rattle.packed.proofs.Numbers.{fields_are_numbers}
 use Rattle.packed.proofs.sheets.read_header.Goals as goal
 
-pub returns-in-err-edition : goal.returns-in-err-edition
+pub returns-in_err-edition : goal.returns-in_err-edition
 unfolding header_of
-returns-in-err-edition c =
+returns-in_err-edition c =
     record {
       header =
-          rw (← c.in-err-edition.ensures.value)
-          (leaves c.from-residual.result (Bits c.in-err-edition.field-0.0) c.from-residual.ensures.1);
+          rw (← c.in_err-edition.ensures.value)
+          (leaves c.from_residual.result (Bits c.in_err-edition.field-0.0) c.from_residual.ensures.1);
       fields = fields_are_numbers;
       examples = examples;
     }
@@ -22,62 +22,62 @@ unfolding header_of
 returns-then-edition-ne-EDITION c =
     record {
       header =
-          rw (← c.in-ok-edition.ensures.value, ne_eqb c.in-ok-edition.edition 1 c.if-edition-ne-EDITION.true);
+          rw (← c.in_ok-edition.ensures.value, ne_eqb c.in_ok-edition.edition 1 c.if-edition-ne-EDITION.true);
       fields = fields_are_numbers;
       examples = examples;
     }
 
-pub returns-in-err-winding : goal.returns-in-err-winding
+pub returns-in_err-winding : goal.returns-in_err-winding
 unfolding header_of
-returns-in-err-winding c =
+returns-in_err-winding c =
     record {
       header =
-          rw (← c.in-ok-edition.ensures.value, eq-eqb c.in-ok-edition.edition 1 c.if-edition-ne-EDITION.false, ← c.in-err-winding.ensures.value)
-          (leaves c.from-residual-in-err-winding.result (Bits c.in-err-winding.field-0.0) c.from-residual-in-err-winding.ensures.1);
+          rw (← c.in_ok-edition.ensures.value, eq-eqb c.in_ok-edition.edition 1 c.if-edition-ne-EDITION.false, ← c.in_err-winding.ensures.value)
+          (leaves c.from_residual-in_err-winding.result (Bits c.in_err-winding.field-0.0) c.from_residual-in_err-winding.ensures.1);
       fields = fields_are_numbers;
       examples = examples;
     }
 
-pub returns-in-err-signed : goal.returns-in-err-signed
+pub returns-in_err-signed : goal.returns-in_err-signed
 unfolding header_of
-returns-in-err-signed c =
+returns-in_err-signed c =
     record {
       header =
-          rw (← c.in-ok-edition.ensures.value, eq-eqb c.in-ok-edition.edition 1 c.if-edition-ne-EDITION.false, ← c.in-ok-winding.ensures.value, ← c.in-err-signed.ensures.value)
-          (leaves c.from-residual-in-err-signed.result (Bits c.in-err-signed.field-0.0) c.from-residual-in-err-signed.ensures.1);
+          rw (← c.in_ok-edition.ensures.value, eq-eqb c.in_ok-edition.edition 1 c.if-edition-ne-EDITION.false, ← c.in_ok-winding.ensures.value, ← c.in_err-signed.ensures.value)
+          (leaves c.from_residual-in_err-signed.result (Bits c.in_err-signed.field-0.0) c.from_residual-in_err-signed.ensures.1);
       fields = fields_are_numbers;
       examples = examples;
     }
 
-pub returns-in-err-kind : goal.returns-in-err-kind
+pub returns-in_err-kind : goal.returns-in_err-kind
 unfolding header_of
-returns-in-err-kind c =
+returns-in_err-kind c =
     record {
       header =
-          rw (← c.in-ok-edition.ensures.value, eq-eqb c.in-ok-edition.edition 1 c.if-edition-ne-EDITION.false, ← c.in-ok-winding.ensures.value, ← c.in-ok-signed.ensures.value, ← c.in-err-kind.ensures.value)
-          (leaves c.from-residual-in-err-kind.result (Bits c.in-err-kind.field-0.0) c.from-residual-in-err-kind.ensures.1);
+          rw (← c.in_ok-edition.ensures.value, eq-eqb c.in_ok-edition.edition 1 c.if-edition-ne-EDITION.false, ← c.in_ok-winding.ensures.value, ← c.in_ok-signed.ensures.value, ← c.in_err-kind.ensures.value)
+          (leaves c.from_residual-in_err-kind.result (Bits c.in_err-kind.field-0.0) c.from_residual-in_err-kind.ensures.1);
       fields = fields_are_numbers;
       examples = examples;
     }
 
-pub returns-in-err-surface : goal.returns-in-err-surface
+pub returns-in_err-surface : goal.returns-in_err-surface
 unfolding header_of
-returns-in-err-surface c =
+returns-in_err-surface c =
     record {
       header =
-          rw (← c.in-ok-edition.ensures.value, eq-eqb c.in-ok-edition.edition 1 c.if-edition-ne-EDITION.false, ← c.in-ok-winding.ensures.value, ← c.in-ok-signed.ensures.value, ← c.in-ok-kind.ensures.value, ← c.in-err-surface.ensures)
-          (leaves c.from-residual-in-err-surface.result c.in-err-surface.field-0.0 c.from-residual-in-err-surface.ensures.1);
+          rw (← c.in_ok-edition.ensures.value, eq-eqb c.in_ok-edition.edition 1 c.if-edition-ne-EDITION.false, ← c.in_ok-winding.ensures.value, ← c.in_ok-signed.ensures.value, ← c.in_ok-kind.ensures.value, ← c.in_err-surface.ensures)
+          (leaves c.from_residual-in_err-surface.result c.in_err-surface.field-0.0 c.from_residual-in_err-surface.ensures.1);
       fields = fields_are_numbers;
       examples = examples;
     }
 
-pub returns-in-err-edits : goal.returns-in-err-edits
+pub returns-in_err-edits : goal.returns-in_err-edits
 unfolding header_of
-returns-in-err-edits c =
+returns-in_err-edits c =
     record {
       header =
-          rw (← c.in-ok-edition.ensures.value, eq-eqb c.in-ok-edition.edition 1 c.if-edition-ne-EDITION.false, ← c.in-ok-winding.ensures.value, ← c.in-ok-signed.ensures.value, ← c.in-ok-kind.ensures.value, ← c.in-ok-surface.ensures, ← c.in-err-edits.ensures.value)
-          (leaves c.from-residual-in-err-edits.result (Bits c.in-err-edits.field-0.0) c.from-residual-in-err-edits.ensures.1);
+          rw (← c.in_ok-edition.ensures.value, eq-eqb c.in_ok-edition.edition 1 c.if-edition-ne-EDITION.false, ← c.in_ok-winding.ensures.value, ← c.in_ok-signed.ensures.value, ← c.in_ok-kind.ensures.value, ← c.in_ok-surface.ensures, ← c.in_err-edits.ensures.value)
+          (leaves c.from_residual-in_err-edits.result (Bits c.in_err-edits.field-0.0) c.from_residual-in_err-edits.ensures.1);
       fields = fields_are_numbers;
       examples = examples;
     }
@@ -87,7 +87,7 @@ unfolding header_of
 returns c =
     record {
       header =
-          rw (← c.in-ok-edition.ensures.value, eq-eqb c.in-ok-edition.edition 1 c.if-edition-ne-EDITION.false, ← c.in-ok-winding.ensures.value, ← c.in-ok-signed.ensures.value, ← c.in-ok-kind.ensures.value, ← c.in-ok-surface.ensures, ← c.in-ok-edits.ensures.value, c.winding-of.ensures);
+          rw (← c.in_ok-edition.ensures.value, eq-eqb c.in_ok-edition.edition 1 c.if-edition-ne-EDITION.false, ← c.in_ok-winding.ensures.value, ← c.in_ok-signed.ensures.value, ← c.in_ok-kind.ensures.value, ← c.in_ok-surface.ensures, ← c.in_ok-edits.ensures.value, c.winding_of.ensures);
       fields = fields_are_numbers;
       examples = examples;
     }

@@ -13,8 +13,8 @@ six_left eps = refl
 
 pub returns : goal.returns
 returns c =
-    let six = ap (λ (l : List Float). take 6 (drop 1 l)) c.-C1f-c.ensures ∙ six_left c.args.eps in
+    let six = ap (λ (l : List Float). take 6 (drop 1 l)) c._C1f-c.ensures ∙ six_left c.args.eps in
     let at = c.sincosd-sinx.ensures in
-    let first : c.sin-cos-series.result ≡ sin_cos_series true (sind series c.args.degrees) (cosd series c.args.degrees) (C1f c.args.eps) = cc in
-    let second : c.sin-cos-series-2.result ≡ sin_cos_series false (sind series c.args.degrees) (cosd series c.args.degrees) (drop 1 (C1f c.args.eps)) = cc in
+    let first : c.sin_cos_series.result ≡ sin_cos_series true (sind series c.args.degrees) (cosd series c.args.degrees) (C1f c.args.eps) = cc in
+    let second : c.sin_cos_series-2.result ≡ sin_cos_series false (sind series c.args.degrees) (cosd series c.args.degrees) (drop 1 (C1f c.args.eps)) = cc in
     cc
