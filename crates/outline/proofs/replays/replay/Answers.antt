@@ -7,18 +7,18 @@ use Rattle.history.specs.Replays.{Replay, Ran, ran, calls_made}
 use Rattle.history.proofs.Replaying.{replay_refused, replay_granted, replay_law}
 use Rattle.outline.proofs.replays.replay.Goals as goal
 
-pub returns-in-err-outline : goal.returns-in-err-outline
-returns-in-err-outline g c =
-    let e = c.in-err-outline.field-0.0 in
-    let p = err_from_is_err_and c.from-residual.result c.from-residual.ensures.1 in
-    let is : c.from-residual.result ≡ Err e = p.1 ∙ ap Err p.2 in
-    let q = replay_refused (g.S.Surface.edges c.args.surface) (g.S.Surface.whole c.args.surface) c.args.winding c.args.stations.now c.args.edits.now c.args.calls.now c.args.answers.now e (sym c.in-err-outline.ensures.answer) in
+pub returns-in_err-outline : goal.returns-in_err-outline
+returns-in_err-outline g c =
+    let e = c.in_err-outline.field-0.0 in
+    let p = err_from_is_err_and c.from_residual.result c.from_residual.ensures.1 in
+    let is : c.from_residual.result ≡ Err e = p.1 ∙ ap Err p.2 in
+    let q = replay_refused (g.S.Surface.edges c.args.surface) (g.S.Surface.whole c.args.surface) c.args.winding c.args.stations.now c.args.edits.now c.args.calls.now c.args.answers.now e (sym c.in_err-outline.ensures.answer) in
     record {
       answer = is ∙ sym (ap (λ (r : Replay). r.answer) q);
       stations = sym (ap (λ (r : Replay). r.stations) q);
       edits = sym (ap (λ (r : Replay). r.edits) q);
       answers = sym (ap (λ (r : Replay). r.answers) q);
-      law = IfOk-from_err c.from-residual.result _ c.from-residual.ensures.0;
+      law = IfOk-from_err c.from_residual.result _ c.from_residual.ensures.0;
     }
 
 pub returns : goal.returns
@@ -29,22 +29,22 @@ returns g c =
     let edits = c.args.edits.now in
     let calls = c.args.calls.now in
     let answers = c.args.answers.now in
-    let outline = c.in-ok-outline.outline in
-    let n = c.make-each.result in
+    let outline = c.in_ok-outline.outline in
+    let n = c.make_each.result in
     let made = calls_made calls answers in
     let new = opened c.args.winding (length stations) (length edits) in
-    let granted : open_refusal (length stations) (length edits) ≡ None = sym c.in-ok-outline.ensures.answer in
+    let granted : open_refusal (length stations) (length edits) ≡ None = sym c.in_ok-outline.ensures.answer in
     let is : ran (g.S.Surface.edges outline.surface) (g.S.Surface.whole outline.surface) outline.frame stations edits (take n calls) ≡ ran edge whole new stations edits (take n calls) =
-    ap (λ s. ran (g.S.Surface.edges s) (g.S.Surface.whole s) outline.frame stations edits (take n calls)) c.in-ok-outline.ensures.surface ∙ ap (λ (f : Frame). ran edge whole f stations edits (take n calls)) c.in-ok-outline.ensures.frame in
-    let many : ran edge whole new stations edits (take n calls) ≡ ran edge whole new stations edits (take made calls) = ap (λ k. ran edge whole new stations edits (take k calls)) c.make-each.ensures.made in
+    ap (λ s. ran (g.S.Surface.edges s) (g.S.Surface.whole s) outline.frame stations edits (take n calls)) c.in_ok-outline.ensures.surface ∙ ap (λ (f : Frame). ran edge whole f stations edits (take n calls)) c.in_ok-outline.ensures.frame in
+    let many : ran edge whole new stations edits (take n calls) ≡ ran edge whole new stations edits (take made calls) = ap (λ k. ran edge whole new stations edits (take k calls)) c.make_each.ensures.made in
     let q = replay_granted edge whole c.args.winding stations edits calls answers granted in
-    let told : c.make-each.new.answers ≡ (ran edge whole new stations edits (take n calls)).answers ++ drop n answers =
-    c.make-each.ensures.answers ∙ ap (λ (r : Ran). r.answers ++ drop n answers) is in
-    let few : n ≤ length calls = omega (arith, c.make-each.ensures.made) in
+    let told : c.make_each.new.answers ≡ (ran edge whole new stations edits (take n calls)).answers ++ drop n answers =
+    c.make_each.ensures.answers ∙ ap (λ (r : Ran). r.answers ++ drop n answers) is in
+    let few : n ≤ length calls = omega (arith, c.make_each.ensures.made) in
     record {
-      answer = ap Ok c.make-each.ensures.made ∙ sym (ap (λ (r : Replay). r.answer) q);
-      stations = c.make-each.ensures.stations ∙ ap (λ (r : Ran). r.stations) (is ∙ many) ∙ sym (ap (λ (r : Replay). r.stations) q);
-      edits = c.make-each.ensures.edits ∙ ap (λ (r : Ran). r.edits) (is ∙ many) ∙ sym (ap (λ (r : Replay). r.edits) q);
-      answers = told ∙ ap (λ (r : Ran). r.answers ++ drop n answers) many ∙ ap (λ k. (ran edge whole new stations edits (take made calls)).answers ++ drop k answers) c.make-each.ensures.made ∙ sym (ap (λ (r : Replay). r.answers) q);
-      law = replay_law edge whole c.args.winding stations edits calls n c.make-each.new.answers (drop n answers) granted few told;
+      answer = ap Ok c.make_each.ensures.made ∙ sym (ap (λ (r : Replay). r.answer) q);
+      stations = c.make_each.ensures.stations ∙ ap (λ (r : Ran). r.stations) (is ∙ many) ∙ sym (ap (λ (r : Replay). r.stations) q);
+      edits = c.make_each.ensures.edits ∙ ap (λ (r : Ran). r.edits) (is ∙ many) ∙ sym (ap (λ (r : Replay). r.edits) q);
+      answers = told ∙ ap (λ (r : Ran). r.answers ++ drop n answers) many ∙ ap (λ k. (ran edge whole new stations edits (take made calls)).answers ++ drop k answers) c.make_each.ensures.made ∙ sym (ap (λ (r : Replay). r.answers) q);
+      law = replay_law edge whole c.args.winding stations edits calls n c.make_each.new.answers (drop n answers) granted few told;
     }

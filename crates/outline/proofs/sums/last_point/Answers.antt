@@ -3,12 +3,12 @@ use borrow.Author.Tests.{eqb-false}
 use Rattle.outline.proofs.Summing.{last_none, last_some}
 use Rattle.outline.proofs.sums.last_point.Goals as goal
 
-pub returns-then-is-empty : goal.returns-then-is-empty
-returns-then-is-empty c =
-    sym (last_none c.args.row.now (eqb-true (length c.args.row.now) 0 (sym c.is-empty.ensures ∙ c.if-is-empty.true)))
+pub returns-then-is_empty : goal.returns-then-is_empty
+returns-then-is_empty c =
+    sym (last_none c.args.row.now (eqb-true (length c.args.row.now) 0 (sym c.is_empty.ensures ∙ c.if-is_empty.true)))
 
 pub returns : goal.returns
 returns c =
-    let some = eqb-false (length c.args.row.now) 0 (sym c.is-empty.ensures ∙ c.if-is-empty.false) in
+    let some = eqb-false (length c.args.row.now) 0 (sym c.is_empty.ensures ∙ c.if-is_empty.false) in
     let above : 0 < length c.args.row.now = omega (arith, some) in
     c.point.ensures ∙ sym (last_some c.args.row.now above)

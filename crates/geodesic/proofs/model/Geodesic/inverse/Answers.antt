@@ -3,8 +3,8 @@ use Rattle.std.proofs.Common.{rules}
 use Rattle.inverse.proofs.MirrorLaw.{mirror_law}
 use Rattle.geodesic.proofs.model.Geodesic.inverse.Goals as goal
 
-pub returns-then-not-accepted-both : goal.returns-then-not-accepted-both
-returns-then-not-accepted-both g c = record { value = search rules; mirror = mirror_law }
+pub returns-then-not-accepted_both : goal.returns-then-not-accepted_both
+returns-then-not-accepted_both g c = record { value = search rules; mirror = mirror_law }
 
 pub returns : goal.returns
 returns g c = record { value = search rules; mirror = mirror_law }

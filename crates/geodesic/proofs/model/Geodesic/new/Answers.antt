@@ -3,13 +3,13 @@ use Rattle.std.proofs.Common.{rules}
 use Rattle.geodesic.specs.Shapes.{shape_refusal}
 use Rattle.geodesic.proofs.model.Geodesic.new.Goals as goal
 
-pub returns-then-not-accepted-shape : goal.returns-then-not-accepted-shape
+pub returns-then-not-accepted_shape : goal.returns-then-not-accepted_shape
 unfolding shape_refusal
-returns-then-not-accepted-shape g c = search rules
+returns-then-not-accepted_shape g c = search rules
 
-pub returns-then-not-whole-fits : goal.returns-then-not-whole-fits
+pub returns-then-not-whole_fits : goal.returns-then-not-whole_fits
 unfolding shape_refusal
-returns-then-not-whole-fits g c = search rules
+returns-then-not-whole_fits g c = search rules
 
 pub returns : goal.returns
 unfolding shape_refusal

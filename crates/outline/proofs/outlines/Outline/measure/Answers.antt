@@ -8,9 +8,9 @@ use Rattle.history.proofs.Outcomes.{measure_lengths, measure_done}
 use Rattle.outline.proofs.WholeRule.{whole_rule}
 use Rattle.outline.proofs.outlines.Outline.measure.Goals as goal
 
-pub returns-then-not-rows-fit : goal.returns-then-not-rows-fit
-returns-then-not-rows-fit g c =
-    record { answer = sym (measure_lengths (g.S.Surface.edges c.args.self.now.surface) c.args.self.now.frame c.args.stations.now c.args.edits.now (sym c.rows-fit.ensures.value ∙ c.if-not-rows-fit.true) (g.S.Surface.whole c.args.self.now.surface) c.args.sign); edges = tt; rule = whole_rule }
+pub returns-then-not-rows_fit : goal.returns-then-not-rows_fit
+returns-then-not-rows_fit g c =
+    record { answer = sym (measure_lengths (g.S.Surface.edges c.args.self.now.surface) c.args.self.now.frame c.args.stations.now c.args.edits.now (sym c.rows_fit.ensures.value ∙ c.if-not-rows_fit.true) (g.S.Surface.whole c.args.self.now.surface) c.args.sign); edges = tt; rule = whole_rule }
 
 pub returns : goal.returns
 returns g c =
@@ -27,7 +27,7 @@ returns g c =
     let few : c.closed.result.cost.evaluations ≤ 83 =
     subst (λ n. n ≤ 83) (sym (ap (λ (m : Measurement). m.cost.evaluations) c.closed.ensures)) (g.met.S.Surface.few c.args.self.now.surface last.lat last.lon first.lat first.lon) in
     record {
-      answer = ap Ok (c.closed.ensures ∙ part) ∙ sym (measure_done edge f row c.args.edits.now (sym c.rows-fit.ensures.value ∙ c.if-not-rows-fit.false) whole c.args.sign);
+      answer = ap Ok (c.closed.ensures ∙ part) ∙ sym (measure_done edge f row c.args.edits.now (sym c.rows_fit.ensures.value ∙ c.if-not-rows_fit.false) whole c.args.sign);
       edges = (ap (λ (m : Measurement). m.cost.edges) c.closed.ensures, few);
       rule = whole_rule;
     }

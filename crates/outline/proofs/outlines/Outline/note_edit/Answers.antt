@@ -3,6 +3,6 @@ use Rattle.std.proofs.Common.{arith}
 use Rattle.stations.proofs.Noting.{noted_count_held}
 use Rattle.outline.proofs.outlines.Outline.note_edit.Goals as goal
 
-pub overflow-cast-self-2 : goal.overflow-cast-self-2
-overflow-cast-self-2 g c =
+pub overflow_cast-self-2 : goal.overflow_cast-self-2
+overflow_cast-self-2 g c =
     omega (arith, c.note-held.ensures.count, noted_count_held c.args.edits.now c.args.self.now.frame.counts.edits)
