@@ -1,5 +1,5 @@
 -- Values read row by row from a table: one more is put behind those that stand, and its row is passed over in the table.
-use Rattle.std.proofs.Common.{◌≡◌, ℕ, zero, suc, ◌+◌, ◌-◌, ◌*◌, ◌<◌, ◌≤◌, List, [], ◌∷◌, ◌++◌, length, get_or, take, drop, set, sym, refl, ap, ◌∙◌, append_assoc, arith, take_all, drop-drop}
+use Rattle.std.proofs.Common.{◌≡◌, ℕ, suc, ◌+◌, ◌-◌, ◌*◌, ◌<◌, ◌≤◌, List, [], ◌∷◌, ◌++◌, length, get_or, take, drop, set, sym, ap, ◌∙◌, append_assoc, arith, take_all, drop-drop}
 use lib.Ieee.{Float}
 use Rattle.std.proofs.lemmas.List.{append-nil, take_more_set, drop_more, drop_all}
 use Rattle.floats.specs.Arithmetic.{◌⊗◌}

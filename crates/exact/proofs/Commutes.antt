@@ -1,5 +1,5 @@
 -- A sum of floats does not depend on the order of its terms, bit for bit, infinities and signs of zero included.
-use Rattle.std.proofs.Common.{◌≡◌, ℕ, ◌+◌, ◌-◌, ◌*◌, ◌≤◌, Bool, true, false, cond, ◌&&◌, ltb, sym, refl, ap, ◌∙◌, le_of_lt, mul_comm, add_comm, le_antisymm, not-le_of_lt, ltb-false, ltb-true, le-ltb}
+use Rattle.std.proofs.Common.{◌≡◌, ℕ, ◌-◌, ◌*◌, Bool, true, false, cond, ◌&&◌, ltb, sym, refl, ap, ◌∙◌, le_of_lt, mul_comm, add_comm, le_antisymm, not-le_of_lt, ltb-false, ltb-true}
 use mathlib.Core.Bool.{beq}
 use lib.Ieee.{Float, Format, nan, inf, fin, up, down, round, sum, add}
 

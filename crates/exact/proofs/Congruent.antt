@@ -1,5 +1,5 @@
 -- To differ by whole turns is an equivalence that respects sums and signs, and a number has one reduced form.
-use Rattle.std.proofs.Common.{◌≡◌, ℕ, suc, ◌+◌, ◌*◌, ◌<◌, ◌≤◌, ◌⊎◌, ℤ, pos, negsuc, ◌+ℤ◌, ◌-ℤ◌, neg_ℤ, ◌≤ℤ◌, ◌<ℤ◌, sym, refl, ap, ◌∙◌, subst, inl, inr, le_of_lt, mul-le-mul_right, suc-mul, add-mul, eq-or-lt_of_le, one-mul, zero-mul, arith}
+use Rattle.std.proofs.Common.{◌≡◌, ℕ, ◌+◌, ◌*◌, ◌<◌, ◌≤◌, ◌⊎◌, ℤ, pos, ◌+ℤ◌, neg_ℤ, ◌≤ℤ◌, ◌<ℤ◌, sym, ap, ◌∙◌, subst, inl, inr, mul-le-mul_right, suc-mul, add-mul, eq-or-lt_of_le, one-mul, zero-mul, arith}
 use Rattle.std.proofs.lemmas.Int.{ints}
 use Rattle.exact.specs.Congruent.{Congruent, Reduced}
 use Rattle.exact.proofs.Naturals.{le_or_lt}

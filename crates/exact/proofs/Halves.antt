@@ -1,13 +1,12 @@
 -- Half of a float is exact where its exact value is even, and a representable number of more than p digits is even.
-use Rattle.std.proofs.Common.{◌≡◌, ℕ, zero, suc, ◌+◌, ◌-◌, ◌*◌, ◌^◌, ◌<◌, ◌≤◌, Bool, true, false, cond, not, T, ℤ, pos, negsuc, ◌+ℤ◌, neg_ℤ, nat_abs, sym, refl, ap, ◌∙◌, subst, le_trans, le_of_eq, lt_of_le_of_lt, mul_assoc, mul_comm, mul-pos, one-mul, mul-one, mul-add, mul_right_comm, not-le_of_lt, mul_left_comm, arith, pow_pos, pow-add}
+use Rattle.std.proofs.Common.{◌≡◌, ℕ, zero, suc, ◌+◌, ◌*◌, ◌^◌, ◌<◌, ◌≤◌, Bool, true, false, T, ℤ, pos, negsuc, ◌+ℤ◌, nat_abs, sym, refl, ap, ◌∙◌, le_trans, le_of_eq, mul_assoc, mul-pos, mul-one, mul-add, not-le_of_lt, arith, pow_pos}
 use native.Mathlib.Nat.{two-pow-succ}
 use Rattle.std.proofs.lemmas.Int.{ints}
 use lib.Ieee.{Float, Format, nan, inf, fin, prec, low, up, down, unlike, round, div, fits}
 use lib.Ieee.Fits.{down_pos}
 use lib.Ieee.Scale.{round_same, overflow}
-use Rattle.exact.specs.Rounded.{Rep, RepZ}
+use Rattle.exact.specs.Rounded.{Rep}
 use Rattle.exact.specs.Values.{signed, Is, Rounds}
-use Rattle.exact.proofs.Signs.{unsigned_abs_signed, signed-plus}
 use Rattle.exact.proofs.Sums.{rounds_of}
 use Rattle.exact.proofs.Values.{is_rep, is_below}
 use Rattle.exact.proofs.Roundings.{rounds_exact}

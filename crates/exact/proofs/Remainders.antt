@@ -1,14 +1,14 @@
 -- A remainder of floats is exact: it is a whole number of the units that both share, and no larger than the divisor.
-use Rattle.std.proofs.Common.{◌≡◌, ℕ, zero, suc, ◌+◌, ◌-◌, ◌*◌, ◌/◌, ◌%◌, ◌^◌, ◌<◌, ◌≤◌, Bool, true, false, cond, T, eqb, ◌⊎◌, ℤ, pos, negsuc, neg_ℤ, nat_abs, sym, refl, ap, ◌∙◌, subst, inl, inr, le_trans, le_of_eq, lt_of_lt_of_le, lt_of_le_of_lt, le_of_lt, lt_irrefl, mod-lt, mul_assoc, mul_comm, eq-zero-or-pos, lt_of_mul-lt-mul_right, mul-pos, zero-mul, sub-add_cancel, mul_right_comm, arith, pow_pos, pow-add, ne_eqb}
-use native.Mathlib.Nat.{mod-le, mod-zero, zero-mod}
+use Rattle.std.proofs.Common.{◌≡◌, ℕ, zero, suc, ◌-◌, ◌*◌, ◌%◌, ◌^◌, ◌<◌, ◌≤◌, Bool, true, false, cond, T, eqb, ℤ, pos, neg_ℤ, nat_abs, sym, refl, ap, ◌∙◌, subst, inl, inr, lt_of_lt_of_le, lt_of_le_of_lt, le_of_lt, lt_irrefl, mod-lt, mul-pos, pow_pos, ne_eqb}
+use native.Mathlib.Nat.{mod-le, zero-mod}
 use lib.Signed.{rem_z}
 use lib.Ieee.{Float, Format, nan, inf, fin, prec, low, up, down, round, rem, fits}
 use lib.Ieee.Fits.{down_pos}
 use lib.Ieee.Scale.{round_same, overflow}
 use lib.Ieee.Positive.{first_pos}
-use Rattle.exact.specs.Rounded.{Rep, RepZ}
+use Rattle.exact.specs.Rounded.{Rep}
 use Rattle.exact.specs.Values.{signed, Is, Rounds}
-use Rattle.exact.proofs.Signs.{unsigned_abs_signed, unsigned_abs_neg}
+use Rattle.exact.proofs.Signs.{unsigned_abs_signed}
 use Rattle.exact.proofs.Scaled.{mod_times, scaled_rest}
 use Rattle.exact.proofs.Sums.{over_first, over_second, rounds_of}
 use Rattle.exact.proofs.Values.{is_rep, is_below}

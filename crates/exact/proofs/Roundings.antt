@@ -1,7 +1,6 @@
 -- What an exact value rounds to: within the format's range it is the float whose exact value is the rounded whole number.
-use Rattle.std.proofs.Common.{◌≡◌, ℕ, zero, suc, ◌+◌, ◌-◌, ◌*◌, ◌/◌, ◌^◌, ◌<◌, ◌≤◌, Bool, true, false, T, ℤ, pos, negsuc, neg_ℤ, nat_abs, sym, refl, ap, ◌∙◌, subst, lt_of_le_of_lt, mul_assoc, mul_comm, mul-pos, mul-div_cancel, mul_left_comm, pow_pos}
-use Prim.Native.Nat.{compare}
-use lib.Ieee.{Float, Format, prec, low, size, nearest, units, round}
+use Rattle.std.proofs.Common.{◌≡◌, ℕ, zero, suc, ◌-◌, ◌*◌, ◌/◌, ◌^◌, ◌<◌, ◌≤◌, Bool, true, false, ℤ, pos, neg_ℤ, nat_abs, sym, refl, ap, ◌∙◌, subst, lt_of_le_of_lt, mul_assoc, mul-pos, mul-div_cancel, pow_pos}
+use lib.Ieee.{Float, Format, prec, low, size, units, round}
 use lib.Ieee.Fits.{round_is, two, two-le_pos}
 use lib.Ieee.Exact.{HasValue, units_val}
 use lib.Ieee.Scale.{overflow}

@@ -1,13 +1,12 @@
 -- A sum or a difference of floats is the rounding of the sum or difference of their exact values, whatever its size.
-use Rattle.std.proofs.Common.{◌≡◌, ℕ, zero, suc, ◌+◌, ◌-◌, ◌*◌, ◌^◌, ◌<◌, ◌≤◌, Bool, true, false, cond, not, ◌&&◌, T, ltb, ◌⊎◌, ℤ, pos, negsuc, ◌+ℤ◌, ◌-ℤ◌, neg_ℤ, nat_abs, sym, refl, ap, ◌∙◌, subst, inl, inr, le_of_lt, mul_assoc, mul_comm, mul-pos, mul_right_comm, arith, pow_pos, ltb-false, ltb-true, le-ltb, lt-ltb}
+use Rattle.std.proofs.Common.{◌≡◌, ℕ, ◌+◌, ◌-◌, ◌*◌, ◌^◌, ◌<◌, ◌≤◌, Bool, true, false, cond, not, ◌&&◌, ltb, ℤ, ◌+ℤ◌, ◌-ℤ◌, neg_ℤ, nat_abs, sym, refl, ap, ◌∙◌, subst, le_of_lt, mul_assoc, mul_comm, mul-pos, mul_right_comm, arith, pow_pos, ltb-false, ltb-true}
 use mathlib.Core.Bool.{beq}
 use Rattle.std.proofs.lemmas.Int.{ints}
-use lib.Ieee.{Float, Format, nan, inf, fin, prec, low, up, down, neg, sum, add, sub, round}
+use lib.Ieee.{Float, Format, nan, inf, fin, low, up, down, neg, sum, add, sub, round}
 use lib.Ieee.Fits.{down_pos}
-use lib.Ieee.Exact.{HasValue}
 use lib.Ieee.Scale.{round_same}
 use Rattle.exact.specs.Values.{signed, Is, Rounds}
-use Rattle.exact.proofs.Signs.{unsigned_abs_signed, signed-plus, signed-minus, signed-zero}
+use Rattle.exact.proofs.Signs.{unsigned_abs_signed, signed-plus}
 use Rattle.exact.proofs.Scaled.{scaled_ltb, scaled_plus, scaled_minus}
 use Rattle.exact.proofs.Values.{neg_is}
 

@@ -1,16 +1,16 @@
 -- The error-free transformation on floats: the rounded sum of two floats, and six operations later exactly what the rounding left out.
-use Rattle.std.proofs.Common.{◌≡◌, ℕ, ◌+◌, ◌*◌, ◌<◌, ◌≤◌, T, ℤ, pos, ◌+ℤ◌, ◌-ℤ◌, neg_ℤ, nat_abs, sym, refl, ap, ◌∙◌, subst, lt_of_le_of_lt, arith}
+use Rattle.std.proofs.Common.{◌≡◌, ℕ, ◌+◌, ◌*◌, ◌<◌, ◌≤◌, T, ℤ, ◌+ℤ◌, ◌-ℤ◌, neg_ℤ, nat_abs, refl, subst, lt_of_le_of_lt, arith}
 use Rattle.std.proofs.lemmas.Int.{ints}
 use lib.Ieee.{Float, Format, prec, neg, add, sub, fits}
 use lib.Ieee.Fits.{two}
 use lib.Ieee.Scale.{overflow}
-use Rattle.exact.specs.Rounded.{rounded, rounded_z, RepZ}
+use Rattle.exact.specs.Rounded.{rounded_z}
 use Rattle.exact.specs.Values.{Is, Rounds}
 use Rattle.exact.proofs.Values.{neg_is, is_rep}
 use Rattle.exact.proofs.Sums.{add_rounds, sub-rounds}
 use Rattle.exact.proofs.Roundings.{rounds_is}
 use Rattle.exact.proofs.Integers.{unsigned_abs_rounded}
-use Rattle.exact.proofs.ErrorFree.{error-free, error-free-steps, error_free_bounds, Exact, Bounded}
+use Rattle.exact.proofs.ErrorFree.{error-free-steps, error_free_bounds}
 
 -- the rounded sum, and what is left out, as floats compute it
 abbrev pub summed : Format → Float → Float → Float

@@ -1,5 +1,5 @@
 -- A float with -0 read as +0. Assumes nothing.
-use Rattle.std.specs.Prelude.{ℕ, zero, suc, false, Float}
+use Rattle.std.specs.Prelude.{zero, suc, false, Float}
 use Rattle.std.specs.Float.{nan, inf, fin}
 
 unfoldable pub plain : Float → Float

@@ -1,16 +1,16 @@
 -- A guess at the root of a normal double that passes the test on squares is the root: were the root another double, the guess would be farther from it.
-use Rattle.std.proofs.Common.{◌≡◌, ℕ, zero, suc, ◌+◌, ◌-◌, ◌*◌, ◌/◌, ◌%◌, ◌^◌, ◌<◌, ◌≤◌, Bool, true, false, cond, T, eqb, ◌⊎◌, Some, None, sym, refl, ap, ◌∙◌, subst, inl, inr, true≢false, le_trans, le_of_eq, lt_of_lt_of_le, lt_of_le_of_lt, lt_irrefl, mul-le-mul_right, mul_assoc, mul-le-mul, lt_of_mul-lt-mul_right, mul-lt-mul_of_pos_right, mul-pos, sub-add_cancel, arith, pow_pos, pow_mono, pow-add, ltb-true, ne_eqb, leb-true}
+use Rattle.std.proofs.Common.{◌≡◌, ℕ, suc, ◌+◌, ◌-◌, ◌*◌, ◌/◌, ◌%◌, ◌^◌, ◌<◌, ◌≤◌, Bool, true, false, cond, T, eqb, ◌⊎◌, Some, None, sym, refl, ap, ◌∙◌, subst, inl, inr, true≢false, le_trans, le_of_eq, lt_of_lt_of_le, lt_irrefl, mul-le-mul_right, mul_assoc, mul-le-mul, lt_of_mul-lt-mul_right, mul-lt-mul_of_pos_right, mul-pos, sub-add_cancel, arith, pow_pos, pow_mono, pow-add, ltb-true, ne_eqb, leb-true}
 use borrow.Author.Tests.{lt-leb}
 use Rattle.std.proofs.lemmas.Bool.{and_parts, cases_lt, cases_eq}
-use lib.Ieee.{Float, Format, nan, inf, fin, binary64, fits, odd, of_bits, of_fields, to_bits}
+use lib.Ieee.{Float, nan, inf, fin, binary64, fits, odd, of_bits, of_fields, to_bits}
 use lib.Ieee.Exact.{HasValue, odd_sign}
-use lib.Ieee.Fits.{nan-fits, inf-fits, round-fits, sqrt-fits}
+use lib.Ieee.Fits.{sqrt-fits}
 use lib.Ieee.Bits.{of_bits-fits, of_bits-to_bits}
 use lib.Ieee.Positive.{positive, positive_of_value}
 use Rattle.std.specs.Float.{sqrt, float_is_finite, is_sign_negative}
 use Rattle.exact.specs.Rounded.{Rep}
 use Rattle.exact.proofs.Unique.{same_sized}
-use Rattle.floats.specs.Roots.{units, Farther, NearestRoot}
+use Rattle.floats.specs.Roots.{units, Farther}
 use Rattle.floats.specs.GuessedRoots.{Normal, even_digits, is_rounded_root, accepted_root, root_pattern}
 use Rattle.floats.proofs.Roots.{nearest_root, plain_value, plain_rep, units_of}
 

@@ -1,6 +1,6 @@
 -- The definitions give the answers of geographiclib-rs's own code at a few numbers, by computation: roots, and remainders at ties, at a negative multiple and where nothing is finite.
 use Rattle.std.proofs.Common.{◌≡◌, ℕ, T, refl}
-use lib.Ieee.{Float, binary64, neg, sub, rem, lt, le, eq, round, of_bits, root_twice, root_below}
+use lib.Ieee.{binary64, neg, sub, rem, lt, le, eq, round, of_bits, root_twice, root_below}
 use lib.Ieee.Positive.{positive}
 use Rattle.std.specs.Float.{float_is_finite, is_sign_negative, float_with_sign, sqrt}
 use Rattle.floats.specs.Arithmetic.{bits}

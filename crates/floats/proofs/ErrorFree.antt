@@ -1,12 +1,11 @@
 -- The law of the error-free sum at binary64, from the exact values of its six operations.
-use Rattle.std.proofs.Common.{◌≡◌, ℕ, ◌+◌, ◌*◌, ◌^◌, ◌<◌, ◌≤◌, true, T, ℤ, pos, ◌+ℤ◌, ◌-ℤ◌, neg_ℤ, nat_abs, sym, refl, ap, ◌∙◌, subst, arith, lit<}
+use Rattle.std.proofs.Common.{◌≡◌, ℕ, ◌+◌, ◌*◌, ◌^◌, ◌<◌, ◌≤◌, T, ℤ, ◌+ℤ◌, ◌-ℤ◌, neg_ℤ, nat_abs, sym, ap, ◌∙◌, subst, arith, lit<}
 use Rattle.std.proofs.lemmas.Int.{ints}
 use lib.Ieee.{Float, binary64, prec, neg, fits}
 use lib.Ieee.Fits.{add-fits, neg-fits}
 use lib.Ieee.Scale.{overflow}
 use Rattle.exact.specs.Rounded.{rounded_z}
 use Rattle.exact.specs.Values.{Is}
-use Rattle.exact.specs.Plain.{plain}
 use Rattle.exact.proofs.Values.{finite_value, is_value, is_tested, neg_is}
 use Rattle.exact.proofs.Integers.{unsigned_abs_neg, rounded_z-neg}
 use Rattle.exact.proofs.Unique.{plain_same}

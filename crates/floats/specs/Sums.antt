@@ -1,5 +1,5 @@
 -- The error-free transformation of a sum: the rounded sum, what the rounding left out, and the law that the two parts together are the exact sum. Assumes nothing.
-use Rattle.std.specs.Prelude.{◌≡◌, ℕ, ◌^◌, ◌≤◌, true, ℤ, ◌+ℤ◌, unsigned_abs, Float}
+use Rattle.std.specs.Prelude.{◌≡◌, ◌^◌, ◌≤◌, true, ℤ, ◌+ℤ◌, unsigned_abs, Float}
 use Rattle.std.specs.Float.Ieee.{prec, neg}
 use Rattle.std.specs.Float.{float_is_finite, binary64}
 use Rattle.exact.specs.Rounded.{rounded_z}

@@ -1,11 +1,11 @@
 -- The angle of a point is what Annex F of the C standard says at zeros and infinities: each row is one case of the definition.
-use Rattle.std.proofs.Common.{◌≡◌, ℕ, ◌+◌, ◌*◌, ◌<◌, Bool, true, false, cond, ◌&&◌, ◌||◌, T, eqb, ltb, ℤ, sym, refl, ap, ◌∙◌, zero-mul, arith, ltb→lt, ne_eqb}
+use Rattle.std.proofs.Common.{◌≡◌, ℕ, ◌*◌, ◌<◌, Bool, true, false, cond, ◌&&◌, ◌||◌, T, eqb, ltb, ℤ, refl, ap, zero-mul, arith, ltb→lt, ne_eqb}
 use mathlib.Core.Bool.{beq}
 use lib.Ieee.{Float, nan, inf, fin, up, down, lt, eq, is_nan, of_bits}
 use Rattle.std.specs.Float.{float_is_finite, float_is_infinite, is_sign_negative, float_with_sign}
 use Rattle.floats.specs.Arithmetic.{bits}
 use Rattle.functions.specs.Coefficients.{π}
-use Rattle.functions.specs.Arcs.{angle_of, level_of, upright_of, quarter_turn, slope_of}
+use Rattle.functions.specs.Arcs.{angle_of, quarter_turn}
 use Rattle.functions.specs.AnnexF.{AnnexF, zero_of}
 
 -- ---- tests on the size of a number above zero

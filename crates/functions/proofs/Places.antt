@@ -1,6 +1,6 @@
 -- The leading digit of a float, read from its pattern: among the digits where the exponent's field is 0, else by that field.
-use Rattle.std.proofs.Common.{◌≡◌, ℕ, zero, suc, ◌+◌, ◌-◌, ◌*◌, ◌/◌, ◌^◌, ◌<◌, ◌≤◌, Bool, true, false, cond, T, eqb, ◌⊎◌, sym, refl, ap, ◌∙◌, subst, inl, inr, lt_of_lt_of_le, add_assoc, suc-mul, add_comm, pow-suc, le-div_iff_mul-le, zero-add, zero-mul, sub-add_cancel, div-one, arith, lit<, pow_pos, pow_mono, pow-add, shr_lt, eq-eqb, ne_eqb}
-use native.Mathlib.Nat.{div-eq_of_lt, pow-zero}
+use Rattle.std.proofs.Common.{◌≡◌, ℕ, zero, suc, ◌+◌, ◌-◌, ◌*◌, ◌/◌, ◌^◌, ◌<◌, ◌≤◌, Bool, true, false, cond, T, eqb, sym, refl, ap, ◌∙◌, subst, inl, inr, lt_of_lt_of_le, add_assoc, suc-mul, add_comm, pow-suc, le-div_iff_mul-le, zero-add, zero-mul, sub-add_cancel, div-one, arith, lit<, pow_pos, pow_mono, pow-add, shr_lt, eq-eqb, ne_eqb}
+use native.Mathlib.Nat.{div-eq_of_lt}
 use borrow.Author.Tests.{clash}
 use lib.Pow.{high}
 use lib.Count.{count_leading_zeros, leading_length}

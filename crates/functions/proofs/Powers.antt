@@ -1,10 +1,9 @@
 -- The pattern of a power of two stands for that power: one digit among the digits below the normal range, else the exponent's field alone.
-use Rattle.std.proofs.Common.{◌≡◌, ℕ, zero, suc, ◌+◌, ◌-◌, ◌*◌, ◌/◌, ◌%◌, ◌^◌, ◌<◌, ◌≤◌, Bool, true, false, cond, eqb, leb, sym, refl, ap, ◌∙◌, subst, suc-le-suc, zero-le, lt_of_lt_of_le, add-zero, le_of_lt, mod-eq_of_lt, suc-mul, mul_comm, add_comm, one-mul, zero-add, zero-mul, mul-one, sub-add_cancel, arith, lit≤, pow_pos, pow-add, ne_eqb}
-use native.Mathlib.Nat.{pow-zero}
+use Rattle.std.proofs.Common.{◌≡◌, ℕ, suc, ◌+◌, ◌-◌, ◌*◌, ◌/◌, ◌%◌, ◌^◌, ◌<◌, ◌≤◌, Bool, false, cond, sym, ap, ◌∙◌, subst, suc-le-suc, zero-le, lt_of_lt_of_le, add-zero, le_of_lt, mod-eq_of_lt, mul_comm, add_comm, one-mul, zero-add, zero-mul, mul-one, sub-add_cancel, arith, lit≤, pow_pos, pow-add, ne_eqb}
 use borrow.Author.Tests.{lt-leb}
 use lib.Arith.{digits_lt, digits_div, digits_mod}
 use lib.Pow.{pow-lt}
-use lib.Ieee.{Float, Format, inf, binary64, prec, emax, low, hid, ones, top, odd, of_fields, of_bits, round, fits}
+use lib.Ieee.{Float, Format, inf, binary64, prec, emax, low, hid, ones, top, odd, of_fields, of_bits, round}
 use lib.Ieee.Bits.{of_bits-fits}
 use lib.Ieee.Exact.{HasValue, odd_sign, round_exact}
 use lib.Ieee.Fits.{round-fits}

@@ -1,5 +1,5 @@
 -- The arc tangent of a number below zero mirrors that of its size; above one, it is what the arc of the reciprocal leaves of a quarter turn, since that lies from 0 to 1.
-use Rattle.std.proofs.Common.{◌≡◌, ℕ, zero, suc, ◌+◌, ◌*◌, ◌<◌, ◌≤◌, Bool, true, false, cond, ◌&&◌, ◌||◌, T, eqb, ltb, ◌⊎◌, ℤ, sym, refl, ap, ◌∙◌, subst, inl, inr, le_of_eq, le_of_lt, one-mul, zero-mul, mul-one, arith, lit<, ltb→lt, le-ltb, ne_eqb, eqb-true}
+use Rattle.std.proofs.Common.{◌≡◌, ℕ, ◌+◌, ◌*◌, ◌<◌, ◌≤◌, Bool, true, false, cond, ◌&&◌, ◌||◌, T, eqb, ltb, ◌⊎◌, ℤ, sym, refl, ap, ◌∙◌, subst, inl, inr, le_of_eq, le_of_lt, one-mul, zero-mul, mul-one, arith, lit<, ltb→lt, le-ltb, ne_eqb, eqb-true}
 use borrow.Author.Tests.{clash}
 use lib.Ieee.{Float, nan, inf, fin, binary64, up, down, lt, le, eq, neg, div, round, of_bits, below, level}
 use lib.Ieee.Bits.{is_true}

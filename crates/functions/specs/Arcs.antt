@@ -1,5 +1,5 @@
 -- The inverse functions of the series set: arc tangent, the angle of a point, area tangent. Assumes nothing.
-use Rattle.std.specs.Prelude.{Bool, true, false, cond, ◌||◌, is_nan, Float}
+use Rattle.std.specs.Prelude.{false, cond, ◌||◌, is_nan, Float}
 use Rattle.std.specs.Float.Ieee.{neg}
 use Rattle.std.specs.Float.{float_is_infinite, is_sign_negative, float_with_sign}
 use Rattle.floats.specs.Arithmetic.{◌⊕◌, ◌⊖◌, ◌⊗◌, ◌⊘◌, ◌≺◌, ◌≼◌, ◌≻◌, ◌≗◌, bits}

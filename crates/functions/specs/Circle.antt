@@ -1,9 +1,9 @@
 -- Sine and cosine of the series set: the angle is brought near zero by quarter turns, and the series of both are summed there. Assumes nothing.
-use Rattle.std.specs.Prelude.{ℕ, Bool, true, false, cond, not, pos, ◌==◌, unsigned_abs, Float}
+use Rattle.std.specs.Prelude.{ℕ, false, cond, pos, ◌==◌, unsigned_abs, Float}
 use Rattle.std.specs.Float.Ieee.{neg, to_signed}
-use Rattle.std.specs.Float.{float_is_finite, float_with_sign, round_ties_even, nan, binary64}
+use Rattle.std.specs.Float.{float_is_finite, float_with_sign, round_ties_even, binary64}
 use Rattle.std.specs.Int.{int_rem_euclid}
-use Rattle.floats.specs.Arithmetic.{◌⊕◌, ◌⊖◌, ◌⊗◌, ◌⊘◌, ◌⊛◌, ◌≼◌, ◌≻◌, bits}
+use Rattle.floats.specs.Arithmetic.{◌⊖◌, ◌⊗◌, ◌⊘◌, ◌⊛◌, ◌≼◌, ◌≻◌, bits}
 use Rattle.floats.specs.Polynomials.{polynomial}
 use Rattle.functions.specs.Coefficients.{π, sine_terms, cosine_terms}
 use Rattle.functions.specs.declared.circle.Quarter.{Quarter}

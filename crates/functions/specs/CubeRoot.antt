@@ -1,5 +1,5 @@
 -- The cube root of the series set: the size is brought between 1 and 8 by a power of 8, and Newton's rule is taken five times. Assumes nothing.
-use Rattle.std.specs.Prelude.{◌≡◌, ℕ, zero, suc, ◌+◌, ◌-◌, ◌*◌, ◌/◌, ◌^◌, ◌<◌, ◌≤◌, Bool, true, false, cond, not, ◌||◌, ◌==◌, unsigned_abs, Float}
+use Rattle.std.specs.Prelude.{ℕ, zero, suc, ◌+◌, ◌-◌, ◌*◌, ◌/◌, ◌^◌, false, cond, not, ◌||◌, ◌==◌, unsigned_abs, Float}
 use Rattle.std.specs.Float.Ieee.{size, round}
 use Rattle.std.specs.Float.{float_is_finite, float_with_sign, binary64}
 use Rattle.floats.specs.Arithmetic.{◌⊕◌, ◌⊖◌, ◌⊗◌, ◌⊘◌, ◌≗◌, bits}

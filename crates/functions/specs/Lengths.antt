@@ -1,5 +1,5 @@
 -- The hypotenuse of the series set. Assumes nothing.
-use Rattle.std.specs.Prelude.{Bool, true, false, cond, ◌||◌, is_nan, Float}
+use Rattle.std.specs.Prelude.{false, cond, ◌||◌, is_nan, Float}
 use Rattle.std.specs.Float.{float_is_infinite, float_with_sign, sqrt, binary64}
 use Rattle.floats.specs.Arithmetic.{◌⊕◌, ◌⊗◌, ◌⊘◌, ◌≗◌, bits}
 use Rattle.floats.specs.Choices.{larger_of, smaller_of}

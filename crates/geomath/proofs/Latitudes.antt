@@ -1,6 +1,5 @@
 -- The canonical latitudes do not change when the points are exchanged or both latitudes are mirrored.
-use Rattle.std.proofs.Common.{◌≡◌, ℕ, zero, suc, ◌<◌, ◌≤◌, Bool, true, false, cond, not, T, ltb, ◌⊎◌, ℤ, pos, negsuc, neg_ℤ, nat_abs, sym, refl, ap, ◌∙◌, subst, inl, inr, le_of_lt, lt_irrefl, le_antisymm, not-le_of_lt, arith, ltb-false, ltb-true}
-use lib.Signed.{lt_z}
+use Rattle.std.proofs.Common.{◌≡◌, ◌<◌, Bool, true, false, cond, not, T, ltb, ◌⊎◌, ℤ, pos, negsuc, neg_ℤ, nat_abs, sym, refl, ap, ◌∙◌, subst, inl, inr, le_of_lt, le_antisymm, not-le_of_lt, arith, ltb-false, ltb-true}
 use Rattle.std.proofs.lemmas.Int.{ints}
 use lib.Ieee.{Float, binary64, neg, fits}
 use Rattle.std.specs.Float.{float_with_sign}

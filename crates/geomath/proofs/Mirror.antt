@@ -1,19 +1,19 @@
 -- Opposite differences of longitude have the same canonical numbers, bit for bit: the difference to the east and what it leaves of a half turn.
-use Rattle.std.proofs.Common.{◌≡◌, ℕ, zero, suc, ◌+◌, ◌*◌, ◌^◌, ◌<◌, ◌≤◌, Bool, true, false, cond, not, T, ◌⊎◌, ℤ, pos, negsuc, ◌+ℤ◌, ◌-ℤ◌, neg_ℤ, nat_abs, ◌≤ℤ◌, ◌<ℤ◌, sym, refl, ap, ◌∙◌, subst, inl, inr, zero-le, lt_irrefl, zero-lt-suc, eq-zero-or-pos, mul-pos, not-le_of_lt, arith, pow_pos, le-ltb, le-leb}
+use Rattle.std.proofs.Common.{◌≡◌, ℕ, zero, suc, ◌*◌, ◌^◌, ◌<◌, ◌≤◌, Bool, true, false, cond, not, T, ◌⊎◌, ℤ, pos, negsuc, ◌-ℤ◌, neg_ℤ, nat_abs, sym, refl, ap, ◌∙◌, subst, inl, inr, zero-le, lt_irrefl, zero-lt-suc, eq-zero-or-pos, mul-pos, not-le_of_lt, arith, pow_pos, le-ltb, le-leb}
 use lib.Dec.{eqb-suc-zero}
 use lib.Signed.{lt_z, le_z}
 use Rattle.std.proofs.lemmas.Int.{ints}
-use lib.Ieee.{Float, binary64, prec, nan, inf, fin, neg, add, sub, mul, lt, le, eq, low, round, fits, of_bits}
+use lib.Ieee.{Float, binary64, prec, nan, inf, fin, neg, add, sub, mul, round, fits, of_bits}
 use lib.Ieee.Fits.{add-fits, neg-fits, sub-fits}
 use Rattle.std.specs.Float.{float_is_finite, float_with_sign}
 use Rattle.exact.specs.Rounded.{rounded_z}
-use Rattle.exact.specs.Values.{value, Is, Rounds}
-use Rattle.exact.specs.Congruent.{Congruent, Reduced}
+use Rattle.exact.specs.Values.{Is, Rounds}
+use Rattle.exact.specs.Congruent.{Reduced}
 use lib.Ieee.Scale as Scale
 use Rattle.exact.proofs.Roundings.{rounds_exact, prec_pos}
 use Rattle.exact.proofs.Values.{neg_is, finite_is, is_rep, is_below}
 use Rattle.exact.proofs.Sums.{sub-rounds}
-use Rattle.exact.proofs.Orders.{lt_is, le_is, eq_is, eq_z, eq_z_refl}
+use Rattle.exact.proofs.Orders.{lt_is, le_is, eq_is, eq_z}
 use Rattle.exact.proofs.Integers.{unsigned_abs_neg, rounded_z-neg, rounded_z_exact, rounded_z_relative}
 use Rattle.exact.proofs.Congruent.{opposite_reduced}
 use Rattle.exact.proofs.Unique.{same_value, zero_is, is_zero}

@@ -1,13 +1,13 @@
 -- A longitude is normalized exactly: the remainder by a turn is exact, and so is the turn added or taken off, by Sterbenz.
-use Rattle.std.proofs.Common.{◌≡◌, ℕ, ◌+◌, ◌*◌, ◌<◌, ◌≤◌, Bool, true, false, cond, not, T, ℤ, pos, ◌+ℤ◌, ◌-ℤ◌, neg_ℤ, nat_abs, ◌≤ℤ◌, ◌<ℤ◌, sym, refl, ap, ◌∙◌, subst, lt_of_le_of_lt, arith}
+use Rattle.std.proofs.Common.{◌≡◌, ℕ, ◌+◌, ◌<◌, ◌≤◌, Bool, true, false, cond, not, T, ℤ, pos, ◌+ℤ◌, ◌-ℤ◌, neg_ℤ, nat_abs, ◌≤ℤ◌, ◌<ℤ◌, sym, refl, ◌∙◌, subst, lt_of_le_of_lt, arith}
 use lib.Signed.{rem_z, lt_z, lt_z_yes, lt_z_no}
 use Rattle.std.proofs.lemmas.Int.{ints}
-use lib.Ieee.{Float, binary64, prec, neg, add, sub, rem, fits}
+use lib.Ieee.{Float, binary64, prec, neg, fits}
 use lib.Ieee.Fits.{add-fits, sub-fits, rem-fits}
 use lib.Ieee.Scale.{overflow}
 use Rattle.std.specs.Float.{float_is_finite}
 use Rattle.exact.specs.Rounded.{RepZ}
-use Rattle.exact.specs.Values.{value, Is}
+use Rattle.exact.specs.Values.{Is}
 use Rattle.exact.specs.Congruent.{Congruent, Reduced}
 use Rattle.exact.proofs.Values.{finite_value, is_value, is_tested, is_rep, is_below}
 use Rattle.exact.proofs.Sums.{add_rounds, sub-rounds}

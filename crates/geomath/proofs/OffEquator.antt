@@ -1,15 +1,14 @@
 -- A latitude at least 2 ^ -57 degree off the equator stays off it when it is rounded: below 1/16 the largest double below 1/16 bounds the first difference.
-use Rattle.std.proofs.Common.{◌≡◌, ℕ, zero, suc, ◌+◌, ◌*◌, ◌^◌, ◌<◌, ◌≤◌, Bool, true, false, cond, not, T, ℤ, pos, negsuc, ◌+ℤ◌, ◌-ℤ◌, neg_ℤ, nat_abs, ◌≤ℤ◌, ◌<ℤ◌, sym, refl, ap, ◌∙◌, subst, lt_of_lt_of_le, not-le_of_lt, arith, lit<, ltb-true, leb-true}
+use Rattle.std.proofs.Common.{◌≡◌, ℕ, zero, suc, ◌<◌, ◌≤◌, Bool, true, false, cond, T, ℤ, pos, negsuc, ◌-ℤ◌, neg_ℤ, nat_abs, ◌≤ℤ◌, ◌<ℤ◌, sym, refl, ap, ◌∙◌, subst, lt_of_lt_of_le, not-le_of_lt, arith, lit<, ltb-true, leb-true}
 use lib.Dec.{eqb-suc-zero}
 use lib.Signed.{lt_z, le_z}
 use Rattle.std.proofs.lemmas.Int.{ints}
-use lib.Ieee.{Float, binary64, prec, nan, inf, fin, neg, div, lt, le, fits, of_bits}
+use lib.Ieee.{Float, binary64, prec, nan, inf, fin, neg, div, fits, of_bits}
 use lib.Ieee.Fits.{neg-fits, sub-fits}
 use lib.Ieee.Scale.{overflow}
-use lib.Ieee.Exact.{HasValue}
-use Rattle.std.specs.Float.{float_is_finite, float_with_sign}
+use Rattle.std.specs.Float.{float_with_sign}
 use Rattle.exact.specs.Rounded.{rounded_z, RepZ}
-use Rattle.exact.specs.Values.{value, Is, Rounds}
+use Rattle.exact.specs.Values.{value, Is}
 use Rattle.exact.proofs.Values.{neg_is, finite_is, is_rep, is_below}
 use Rattle.exact.proofs.Sums.{sub-rounds}
 use Rattle.exact.proofs.Roundings.{rounds_bounded, prec_pos}

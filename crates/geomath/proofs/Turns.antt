@@ -1,9 +1,9 @@
 -- The named angles in exact numbers, and the remainder by a whole turn.
-use Rattle.std.proofs.Common.{◌≡◌, ℕ, zero, suc, ◌+◌, ◌*◌, ◌/◌, ◌%◌, ◌<◌, ◌≤◌, true, false, T, ℤ, pos, negsuc, ◌+ℤ◌, neg_ℤ, nat_abs, sym, refl, ap, ◌∙◌, subst, mod-lt, zero-mul, arith, lit<}
+use Rattle.std.proofs.Common.{◌≡◌, ℕ, zero, suc, ◌+◌, ◌*◌, ◌/◌, ◌%◌, ◌<◌, T, ℤ, pos, negsuc, ◌+ℤ◌, neg_ℤ, nat_abs, sym, refl, ap, ◌∙◌, subst, mod-lt, zero-mul, arith, lit<}
 use native.Mathlib.Nat.{mod-add-div'}
 use lib.Signed.{rem_z}
 use Rattle.std.proofs.lemmas.Int.{ints}
-use lib.Ieee.{Float, binary64, neg, div, fits, of_bits}
+use lib.Ieee.{binary64, neg, div, fits, of_bits}
 use Rattle.exact.specs.Values.{value, Is}
 use Rattle.exact.specs.Congruent.{Congruent}
 use Rattle.exact.proofs.Values.{finite_is, neg_is}

@@ -1,14 +1,12 @@
 -- What a call costs by the book: a station is drawn anew from the points of its row, so the edges solved are those beside the place of the edit, of the points that stand afterwards.
-use Rattle.std.proofs.Common.{◌≡◌, ℕ, zero, suc, ◌+◌, ◌-◌, ◌<◌, ◌≤◌, Bool, true, false, cond, ◌&&◌, eqb, ltb, leb, List, [], ◌∷◌, ◌++◌, map, length, get_or, take, drop, set, sym, refl, ap, ◌∙◌, subst, inl, inr, ⊎_elim, add-zero, add_assoc, zero-add, arith}
+use Rattle.std.proofs.Common.{◌≡◌, ℕ, zero, suc, ◌+◌, ◌-◌, ◌<◌, ◌≤◌, Bool, true, false, cond, ◌&&◌, eqb, ltb, List, [], ◌∷◌, ◌++◌, map, length, get_or, take, drop, set, sym, refl, ap, ◌∙◌, inl, ⊎_elim, add-zero, add_assoc, zero-add, arith}
 use lib.Seq.{take-set-lt, map-set_same}
-use lib.Ieee.{Float}
 use Rattle.std.specs.List.{insert, remove}
-use Rattle.std.proofs.lemmas.List.{map-append, map-set, length-map, length-append, length-set, length-take-le, get_or-take, get_or_default, get_or-map, take_at}
+use Rattle.std.proofs.lemmas.List.{map-append, map-set, length-map, length-set, get_or-take, get_or-map, take_at}
 use Rattle.std.proofs.lemmas.List.Edits.{length-insert, length-remove}
-use Rattle.std.proofs.lemmas.Bool.{lt-ltb, le-ltb, and_from, and_left, and_right, cases_Bool, cases_lt}
+use Rattle.std.proofs.lemmas.Bool.{lt-ltb, le-ltb, and_from, and_left, and_right, cases_lt}
 use Rattle.rows.specs.Rows.{put_in, take_out, is_in_use}
 use Rattle.rows.proofs.Changes.{put_in_place, take_out_place, length_put_in, length_take_out}
-use Rattle.surface.specs.declared.Edge.{Edge}
 use Rattle.polygon.specs.declared.Point.{Point}
 use Rattle.polygon.specs.Polygons.{Solve, Ends, solved, origin}
 use Rattle.stations.specs.declared.Station.{Station}

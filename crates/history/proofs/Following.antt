@@ -1,5 +1,5 @@
 -- The relation between an outline and its book, and that each call on rows as long as at opening keeps it and agrees with the book.
-use Rattle.std.proofs.Common.{◌≡◌, ℕ, zero, suc, ◌+◌, ◌-◌, ◌<◌, ◌≤◌, Bool, true, false, cond, eqb, ltb, leb, List, [], ◌∷◌, ◌++◌, map, length, get_or, take, drop, set, Some, None, Err, Option, sym, refl, ap, ◌∙◌, subst, ⊎_elim, arith}
+use Rattle.std.proofs.Common.{◌≡◌, ℕ, zero, suc, ◌+◌, ◌-◌, ◌<◌, ◌≤◌, Bool, true, eqb, List, [], ◌∷◌, ◌++◌, map, length, get_or, take, drop, set, Some, None, Err, Option, sym, refl, ap, ◌∙◌, subst, ⊎_elim, arith}
 use lib.ListN.{get_or-map}
 use lib.Seq.{take-length, drop-length}
 use lib.Ieee.{Float}
@@ -12,8 +12,7 @@ use Rattle.surface.specs.declared.refusals.Refusal.{Refusal}
 use Rattle.surface.specs.declared.refusals.Refusal.TheVariants.{Point as PointOff, Full, Place, NothingToTakeBack}
 use Rattle.area.specs.declared.Winding.{Winding}
 use Rattle.polygon.specs.declared.Point.{Point}
-use Rattle.polygon.specs.declared.Figures.{Figures}
-use Rattle.polygon.specs.Polygons.{Solve, figures_of}
+use Rattle.polygon.specs.Polygons.{Solve}
 use Rattle.polygon.specs.Traverses.{most_points}
 use Rattle.stations.specs.declared.Station.{Station}
 use Rattle.stations.specs.declared.Cost.{Cost}
@@ -29,11 +28,11 @@ use Rattle.history.specs.declared.Call.TheVariants.{Add, Move, Drop, TakeBack, M
 use Rattle.history.specs.declared.Answer.{Answer}
 use Rattle.history.specs.declared.Answer.TheVariants.{Edited, Measured, Refused}
 use Rattle.history.specs.Calls.{After, Done, lengths_of, same_lengths, with_counts, no_record, newest_of, undrawn, undrawn_count, add_of, move_of, drop_of, take_back_of, measured, measure_of, measure_answer, done_by, done_of}
-use Rattle.history.specs.Book.{Book, refusal_on, take_back_refusal, turned_to, turned_back, changed, unless_refused}
-use Rattle.history.specs.Histories.{refusal_in, computed, FiguresAgree}
+use Rattle.history.specs.Book.{Book, refusal_on, turned_to, changed, unless_refused}
+use Rattle.history.specs.Histories.{refusal_in, FiguresAgree}
 use Rattle.history.proofs.Outcomes.{add_off, add-full, add_done, move_above, move_off, move_done, drop_above, drop_done, take_back_none, take_back_done, measure_done}
 use Rattle.history.proofs.Drawn.{drawn_from, points_drawn}
-use Rattle.history.proofs.Measures.{Accepted, measured-figures, measured-computed}
+use Rattle.history.proofs.Measures.{measured-figures, measured-computed}
 use Rattle.history.proofs.Pasts.{newest_first, undone, Chain, chain_noted}
 use Rattle.history.proofs.Undoing.{add-fits, add-undone, move_fits, move_undone, drop-fits, drop-undone}
 use Rattle.history.proofs.Redrawn.{Accepts, Holds, Redraws, place_redraws, move_redraws, drop_redraws, undo_redraws}

@@ -1,5 +1,5 @@
 -- The history law: the relation holds at opening, each call keeps it, and a call on rows of other lengths changes nothing.
-use Rattle.std.proofs.Common.{◌≡◌, ℕ, ◌≤◌, Bool, true, false, cond, ◌&&◌, leb, List, [], ◌∷◌, length, Some, None, Option, sym, refl, ap, ◌∙◌, subst, ⊎_elim, arith}
+use Rattle.std.proofs.Common.{◌≡◌, ℕ, ◌≤◌, true, false, cond, ◌&&◌, leb, List, [], ◌∷◌, length, Some, None, Option, sym, refl, ap, ◌∙◌, subst, ⊎_elim, arith}
 use lib.Ieee.{Float}
 use Rattle.std.proofs.lemmas.Bool.{leb-true, and_parts, cases_Bool, cond-true, cond-false}
 use Rattle.surface.specs.declared.refusals.Refusal.{Refusal}
@@ -10,17 +10,14 @@ use Rattle.stations.specs.declared.Station.{Station}
 use Rattle.stations.specs.declared.records.EditRecord.{EditRecord}
 use Rattle.history.specs.declared.Sizes.{Sizes}
 use Rattle.history.specs.declared.Frame.{Frame}
-use Rattle.history.specs.declared.Measurement.{Measurement}
 use Rattle.history.specs.declared.Call.{Call}
 use Rattle.history.specs.declared.Call.TheVariants.{Add, Move, Drop, TakeBack, Measure}
-use Rattle.history.specs.declared.Answer.{Answer}
-use Rattle.history.specs.declared.Answer.TheVariants.{Measured, Refused}
+use Rattle.history.specs.declared.Answer.TheVariants.{Refused}
 use Rattle.history.specs.Calls.{Done, done_by, done_of, measure_answer, lengths_of, same_lengths, open_refusal, opened}
 use Rattle.history.specs.Book.{Book, empty_book, refusal_on, book_refusal, book_after, changed, unless_refused}
-use Rattle.history.specs.Histories.{Event, done_at, fitting, Untouched, refusal_in, FiguresAgree, Agree, Agrees, HistoryLaw}
+use Rattle.history.specs.Histories.{Event, done_at, fitting, Untouched, refusal_in, Agree, Agrees, HistoryLaw}
 use Rattle.history.proofs.Outcomes.{add-lengths, move_lengths, drop-lengths, take_back_lengths, measure_lengths}
-use Rattle.history.proofs.Redrawn.{Holds}
-use Rattle.history.proofs.Following.{Follows, Right, not_refused, call_right}
+use Rattle.history.proofs.Following.{Follows, not_refused, call_right}
 
 -- a call on rows of other lengths
 other_lengths : (edge : Solve) (whole : Float) (f : Frame) (stations : List Station) (edits : List EditRecord) → same_lengths (lengths_of stations edits) f.lengths ≡ false → (call : Call) → done_of edge whole f stations edits call ≡ record { answer = Refused RowLength; frame = f; stations = stations; edits = edits }

@@ -1,5 +1,5 @@
 -- The sums over stations drawn from points are those that a PolygonArea holds of these points; the zero edge of the first station adds nothing.
-use Rattle.std.proofs.Common.{◌≡◌, ℕ, suc, ◌+◌, ◌<◌, ◌≤◌, Bool, true, false, eqb, List, [], ◌∷◌, map, length, ℤ, pos, ◌+ℤ◌, Some, None, sym, refl, ap, ◌∙◌, inl, inr, ⊎_elim, arith}
+use Rattle.std.proofs.Common.{◌≡◌, ℕ, ◌+◌, ◌<◌, Bool, true, List, [], ◌∷◌, map, length, ℤ, pos, Some, None, sym, refl, ap, ◌∙◌, ⊎_elim, arith}
 use lib.Ieee.{Float}
 use Rattle.std.specs.List.{AllByRecursion as All}
 use Rattle.std.proofs.lemmas.Bool.{ne_eqb, cases_lt}
@@ -9,7 +9,7 @@ use Rattle.area.specs.declared.Winding.{Winding}
 use Rattle.polygon.specs.declared.Point.{Point}
 use Rattle.polygon.specs.declared.Traverse.{Traverse}
 use Rattle.polygon.specs.Transits.{transit_of}
-use Rattle.polygon.specs.Polygons.{Solve, Ends, edges_from, open_edges, first_of, last_after, last_of, origin, added_to, counted_to, lengths, strips, transits, figures_of}
+use Rattle.polygon.specs.Polygons.{Solve, edges_from, open_edges, first_of, last_of, added_to, counted_to, lengths, strips, transits, figures_of}
 use Rattle.polygon.specs.Traverses.{begun, fed, fed_all, offered, most_points, closed}
 use Rattle.polygon.proofs.Closing.{fed_all_holds, closed-fed_all}
 use Rattle.polygon.proofs.Feeding.{fed_first, fed_later}

@@ -1,5 +1,5 @@
 -- A refused call leaves the frame and both rows as they were.
-use Rattle.std.proofs.Common.{◌≡◌, ℕ, ◌+◌, ◌-◌, Bool, true, false, cond, eqb, ltb, List, length, Some, None, Ok, Err, Option, Result, sym, refl, ap, ◌∙◌, arith}
+use Rattle.std.proofs.Common.{◌≡◌, ℕ, ◌+◌, ◌-◌, Bool, true, false, cond, eqb, ltb, List, length, Some, None, Ok, Err, Result, sym, refl, ap, ◌∙◌, arith}
 use lib.Ieee.{Float}
 use Rattle.geomath.specs.Angles.{accepts}
 use Rattle.surface.specs.declared.refusals.Refusal.{Refusal}
@@ -15,8 +15,8 @@ use Rattle.history.specs.declared.Measurement.{Measurement}
 use Rattle.history.specs.declared.Call.{Call}
 use Rattle.history.specs.declared.Call.TheVariants.{Add, Move, Drop, TakeBack, Measure}
 use Rattle.history.specs.declared.Answer.{Answer}
-use Rattle.history.specs.declared.Answer.TheVariants.{Edited, Measured, Refused}
-use Rattle.history.specs.Calls.{After, Done, lengths_of, same_lengths, newest_of, undrawn, refuse, edited, on_rows, taken_back, add_of, move_of, drop_of, take_back_of, measure_of, edit_answer, measure_answer, done_by, done_of}
+use Rattle.history.specs.declared.Answer.TheVariants.{Refused}
+use Rattle.history.specs.Calls.{After, lengths_of, same_lengths, newest_of, undrawn, refuse, edited, on_rows, taken_back, add_of, move_of, drop_of, take_back_of, measure_of, edit_answer, measure_answer, done_by, done_of}
 use Rattle.history.specs.Histories.{refusal_in}
 
 not_granted : (e : Refusal) → None ≡ Some e → ⊥

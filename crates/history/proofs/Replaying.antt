@@ -1,5 +1,5 @@
 -- A replay is a history on untouched storage: by the relation each of its answers agrees with the book.
-use Rattle.std.proofs.Common.{◌≡◌, ℕ, suc, ◌≤◌, true, cond, eqb, List, [], ◌∷◌, ◌++◌, length, take, drop, Some, None, Err, Option, sym, refl, ap, ◌∙◌, subst}
+use Rattle.std.proofs.Common.{◌≡◌, ℕ, suc, ◌≤◌, true, eqb, List, [], ◌∷◌, ◌++◌, length, take, Some, None, Err, Option, sym, refl, ap, ◌∙◌, subst}
 use lib.Ieee.{Float}
 use Rattle.std.proofs.lemmas.List.{take_at, length-take-le}
 use Rattle.std.proofs.lemmas.Bool.{eq-eqb, and_from, cond-true}
@@ -13,9 +13,9 @@ use Rattle.history.specs.declared.Sizes.{Sizes}
 use Rattle.history.specs.declared.Frame.{Frame}
 use Rattle.history.specs.declared.Call.{Call}
 use Rattle.history.specs.declared.Answer.{Answer}
-use Rattle.history.specs.Calls.{open_refusal, opened, lengths_of, same_lengths, Done, done_of}
+use Rattle.history.specs.Calls.{open_refusal, opened, lengths_of, same_lengths, done_of}
 use Rattle.history.specs.Book.{Book, empty_book, refusal_on, book_refusal, book_after, changed, unless_refused}
-use Rattle.history.specs.Replays.{Ran, ran, calls_made, Replay, replay_from, replay_of, AnswersAgree}
+use Rattle.history.specs.Replays.{ran, calls_made, replay_from, replay_of, AnswersAgree}
 use Rattle.history.proofs.Following.{Follows, call_right}
 use Rattle.history.proofs.Law.{opening_follows, opening_bound}
 

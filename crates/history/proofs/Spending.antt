@@ -1,8 +1,8 @@
 -- Every call that is not refused costs what the book says of it, and leaves the records that the book keeps.
-use Rattle.std.proofs.Common.{◌≡◌, ℕ, zero, suc, ◌+◌, ◌-◌, ◌<◌, ◌≤◌, Bool, true, false, cond, ◌&&◌, eqb, ltb, leb, List, [], ◌∷◌, ◌++◌, map, length, get_or, take, drop, set, Some, None, Option, sym, refl, ap, ◌∙◌, subst, ⊎_elim, arith}
+use Rattle.std.proofs.Common.{◌≡◌, ℕ, zero, suc, ◌+◌, ◌-◌, ◌<◌, ◌≤◌, Bool, true, false, cond, ◌&&◌, eqb, ltb, leb, List, [], ◌∷◌, ◌++◌, map, length, get_or, take, drop, set, Some, None, sym, refl, ap, ◌∙◌, subst, ⊎_elim, arith}
 use lib.Seq.{take-length, drop-length}
 use lib.Ieee.{Float}
-use Rattle.std.specs.List.{insert, remove}
+use Rattle.std.specs.List.{insert}
 use Rattle.std.proofs.lemmas.List.{append-nil, length_push}
 use Rattle.std.proofs.lemmas.Bool.{both_ways, ltb-true, leb-true, lt-ltb, le-ltb, eq-eqb, ne_eqb, and_parts, and_right, cases_Bool, cases_lt}
 use Rattle.geomath.specs.Angles.{accepts}
@@ -12,9 +12,8 @@ use Rattle.area.specs.declared.Winding.{Winding}
 use Rattle.polygon.specs.declared.Point.{Point}
 use Rattle.polygon.specs.Polygons.{Solve, Ends, solved, first_of, last_of, origin, closing_edge}
 use Rattle.stations.specs.declared.Station.{Station}
-use Rattle.stations.specs.declared.Cost.{Cost}
 use Rattle.stations.specs.declared.records.EditRecord.{EditRecord}
-use Rattle.stations.specs.Stations.{Drawing, point_of, point_at, one_edge, placed, moved, dropped}
+use Rattle.stations.specs.Stations.{point_of, point_at, one_edge, placed, moved, dropped}
 use Rattle.stations.specs.Records.{add_kind, move_kind, drop_kind, add_record, move_record, drop_record, fits_outline, noted, noted_count}
 use Rattle.history.specs.declared.Sizes.{Sizes}
 use Rattle.history.specs.declared.Frame.{Frame}
@@ -23,8 +22,8 @@ use Rattle.history.specs.declared.Call.TheVariants.{Add, Move, Drop, TakeBack, M
 use Rattle.history.specs.Calls.{After, Done, lengths_of, same_lengths, old_point, no_record, newest_of, undrawn, add_of, move_of, drop_of, take_back_of, measure_of, measure_answer, done_by, done_of}
 use Rattle.history.specs.Book.{Book, refusal_on, changed}
 use Rattle.history.specs.Expenses.{arriving, beside, cost_of, cost_in, records_after, solved_back, solved_by}
-use Rattle.history.proofs.Outcomes.{add_off, add-full, add_done, move_above, move_off, move_done, drop_above, drop_done, take_back_done, measure_done}
-use Rattle.history.proofs.Drawn.{drawn_from, points_drawn}
+use Rattle.history.proofs.Outcomes.{add_done, move_done, drop_done, take_back_done, measure_done}
+use Rattle.history.proofs.Drawn.{points_drawn}
 use Rattle.history.proofs.Pasts.{newest_first, newest_noted, undone, Chain}
 use Rattle.history.proofs.Expenses.{At, point_at_lem, cost_one, placed_cost, moved_cost, dropped_cost}
 use Rattle.history.proofs.Following.{Follows}

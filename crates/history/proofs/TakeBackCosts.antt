@@ -1,5 +1,5 @@
 -- What taking back a record that fits costs: nothing for an add, one edge for each neighbour otherwise.
-use Rattle.std.proofs.Common.{◌≡◌, ℕ, ◌≤◌, Bool, true, false, ◌&&◌, eqb, ltb, leb, List, length, refl, ⊎_elim}
+use Rattle.std.proofs.Common.{◌≡◌, ℕ, ◌≤◌, true, false, ◌&&◌, eqb, ltb, leb, List, length, refl, ⊎_elim}
 use Rattle.std.proofs.lemmas.Bool.{both_ways, ltb-true, leb-true, and_parts, cases_Bool}
 use Rattle.geomath.specs.Angles.{accepts}
 use Rattle.polygon.specs.Polygons.{Solve}

@@ -1,13 +1,12 @@
 -- The record of each edit fits the list after it and undoes it into the list before.
-use Rattle.std.proofs.Common.{◌≡◌, ℕ, suc, ◌+◌, ◌-◌, ◌<◌, ◌≤◌, Bool, true, false, cond, ◌&&◌, eqb, ltb, leb, List, [], ◌∷◌, ◌++◌, length, get_or, take, drop, set, sym, refl, ap, ◌∙◌, arith}
+use Rattle.std.proofs.Common.{◌≡◌, ℕ, suc, ◌+◌, ◌-◌, ◌<◌, ◌≤◌, true, ltb, leb, List, [], ◌∷◌, ◌++◌, length, get_or, take, drop, set, sym, ap, ◌∙◌, arith}
 use lib.Seq.{split_at}
-use Rattle.std.specs.List.{insert, remove}
+use Rattle.std.specs.List.{remove}
 use Rattle.std.proofs.lemmas.List.{length_push, length-set, length-take-le, take_at, drop_at, set-set, set-get_or}
 use Rattle.std.proofs.lemmas.List.Edits.{length-remove}
 use Rattle.std.proofs.lemmas.Bool.{lt-ltb, le-leb, eq-eqb, and_from}
 use Rattle.geomath.specs.Angles.{accepts}
 use Rattle.polygon.specs.declared.Point.{Point}
-use Rattle.stations.specs.declared.records.EditRecord.{EditRecord}
 use Rattle.stations.specs.Records.{add_record, move_record, drop_record, fits_outline}
 use Rattle.history.proofs.Pasts.{undone}
 

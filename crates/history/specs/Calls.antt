@@ -1,12 +1,11 @@
 -- What each call on an outline answers and leaves, of what it finds: the frame and the two rows. Assumes nothing.
-use Rattle.std.specs.Prelude.{ℕ, ◌+◌, ◌-◌, Bool, cond, ◌&&◌, List, [], ◌∷◌, map, length, take, ℤ, pos, Some, None, Ok, Err, Option, Result, ◌==◌, nat_le, nat_lt, slice_index_or, Float}
+use Rattle.std.specs.Prelude.{ℕ, ◌+◌, ◌-◌, Bool, cond, ◌&&◌, List, map, length, take, pos, Some, None, Ok, Err, Option, Result, ◌==◌, nat_le, nat_lt, slice_index_or, Float}
 use Rattle.std.specs.Float.{nan}
 use Rattle.geomath.specs.Angles.{zero, accepts}
 use Rattle.surface.specs.declared.refusals.Refusal.{Refusal}
 use Rattle.surface.specs.declared.refusals.Refusal.TheVariants.{Point as PointOff, RowLength, Full, Place, NothingToTakeBack, UnfitRecord}
 use Rattle.area.specs.declared.Winding.{Winding}
 use Rattle.polygon.specs.declared.Point.{Point}
-use Rattle.polygon.specs.declared.Figures.{Figures}
 use Rattle.polygon.specs.declared.Traverse.{Traverse}
 use Rattle.polygon.specs.Polygons.{Solve, solved, first_of, last_of, added_to, counted_to}
 use Rattle.polygon.specs.Traverses.{closed}

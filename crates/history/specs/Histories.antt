@@ -1,5 +1,5 @@
 -- The law of an outline's history: while storage is untouched, each call is refused as the book says, and each measure is that of a new PolygonArea over the standing points. Assumes nothing.
-use Rattle.std.specs.Prelude.{◌≡◌, ℕ, Bool, true, cond, List, [], ◌∷◌, length, Some, None, Option, Float}
+use Rattle.std.specs.Prelude.{◌≡◌, Bool, true, cond, List, [], ◌∷◌, length, Some, None, Option, Float}
 use Rattle.surface.specs.declared.refusals.Refusal.{Refusal}
 use Rattle.area.specs.declared.Winding.{Winding}
 use Rattle.polygon.specs.declared.Point.{Point}

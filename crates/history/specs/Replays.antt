@@ -9,7 +9,7 @@ use Rattle.history.specs.declared.Sizes.{Sizes}
 use Rattle.history.specs.declared.Frame.{Frame}
 use Rattle.history.specs.declared.Call.{Call}
 use Rattle.history.specs.declared.Answer.{Answer}
-use Rattle.history.specs.Calls.{open_refusal, opened, Done, done_of}
+use Rattle.history.specs.Calls.{open_refusal, opened, done_of}
 use Rattle.history.specs.Book.{Book, book_refusal, book_after}
 use Rattle.history.specs.Histories.{refusal_in, FiguresAgree}
 

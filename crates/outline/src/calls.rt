@@ -173,13 +173,8 @@ impl<S: Surface> Outline<S> {
             return Err(Refusal::Point);
         }
         let old = stations[place].point();
-        let cost = shift_point(
-            &self.surface,
-            stations,
-            count as usize,
-            place,
-            Point { lat, lon },
-        );
+        let to = Point { lat, lon };
+        let cost = shift_point(&self.surface, stations, count as usize, place, to);
         self.note_edit(edits, count, EditRecord::moved(place as u16, old));
         Ok(cost)
     }

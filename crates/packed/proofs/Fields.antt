@@ -1,6 +1,6 @@
 -- A field grows bit by bit: a bit is 0 or 1, so a field of w bits is below 2^w, and a bit past the end is 0.
-use Rattle.std.proofs.Common.{◌≡◌, ℕ, zero, suc, ◌+◌, ◌-◌, ◌*◌, ◌/◌, ◌%◌, ◌^◌, ◌<◌, ◌≤◌, List, length, get_or, Some, None, Ok, Err, Option, Result, sym, refl, ap, ◌∙◌, subst, mod-lt, pow-suc, arith, le-ltb, lt-ltb, eq-eqb, ne_eqb, le-leb}
-use native.Mathlib.Nat.{zero-div, zero-mod}
+use Rattle.std.proofs.Common.{◌≡◌, ℕ, zero, suc, ◌+◌, ◌-◌, ◌*◌, ◌/◌, ◌%◌, ◌^◌, ◌<◌, ◌≤◌, List, length, get_or, Some, None, Ok, Err, sym, refl, ap, ◌∙◌, subst, pow-suc, arith, le-ltb, lt-ltb, eq-eqb, ne_eqb, le-leb}
+use native.Mathlib.Nat.{zero-div}
 use Rattle.std.proofs.lemmas.List.{get_or_past}
 use Rattle.std.proofs.lemmas.Nat.{mod_below}
 use borrow.Author.Tests.{lt-leb}

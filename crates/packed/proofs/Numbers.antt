@@ -1,10 +1,10 @@
 -- A bit is a binary digit of the number that the bytes write, by induction on the bytes; a field is one digit more, so it is that number's digits, by induction on the width.
-use Rattle.std.proofs.Common.{◌≡◌, ℕ, zero, suc, ◌+◌, ◌-◌, ◌*◌, ◌/◌, ◌%◌, ◌^◌, ◌<◌, ◌≤◌, Bool, true, false, ◌⊎◌, List, [], ◌∷◌, length, get_or, sym, refl, ap, ◌∙◌, subst, inl, inr, mul_assoc, add_comm, pow-suc, arith}
+use Rattle.std.proofs.Common.{◌≡◌, ℕ, zero, suc, ◌+◌, ◌-◌, ◌*◌, ◌/◌, ◌%◌, ◌^◌, ◌<◌, ◌⊎◌, List, [], ◌∷◌, length, get_or, sym, ap, ◌∙◌, subst, inl, inr, mul_assoc, add_comm, pow-suc, arith}
 use native.Mathlib.Nat.{mod-one, add-mul-mod_self_right, add-mul-div_right}
 use Rattle.std.proofs.lemmas.Nat.{pow_pos, pow-add, shr-shr, shr_high, mul-add-lt, mod-pow-add}
 use Rattle.std.proofs.lemmas.Bool.Decides.{leb_tells}
 use Rattle.packed.specs.Bits.{bit, field}
-use Rattle.packed.specs.Numbers.{number, digits_write, Bytes, Fields_are_numbers}
+use Rattle.packed.specs.Numbers.{number, Bytes, Fields_are_numbers}
 use Rattle.packed.proofs.Fields.{field-none, field_more}
 
 grown : (b p r : ℕ) → b < 256 → r < p → b * p + r < 256 * p

@@ -1,17 +1,16 @@
 -- Where the bits of a file are the digits of a field, reading the field gives its number; so what was written reads back.
-use Rattle.std.proofs.Common.{◌≡◌, ℕ, zero, suc, ◌+◌, ◌-◌, ◌*◌, ◌/◌, ◌%◌, ◌^◌, ◌<◌, ◌≤◌, Bool, true, false, cond, ◌⊎◌, List, [], ◌∷◌, ◌++◌, length, get_or, set, replicate, Ok, Err, Result, sym, refl, ap, ◌∙◌, subst, inl, inr, mod-eq_of_lt, mul_assoc, pow-suc, arith, length-append, get_or-set_other, get_or-set_same, pow_mono}
+use Rattle.std.proofs.Common.{◌≡◌, ℕ, zero, suc, ◌+◌, ◌-◌, ◌*◌, ◌/◌, ◌%◌, ◌^◌, ◌<◌, ◌≤◌, ◌⊎◌, List, [], ◌∷◌, ◌++◌, length, get_or, set, replicate, Ok, sym, refl, ap, ◌∙◌, subst, inl, inr, mod-eq_of_lt, mul_assoc, pow-suc, arith, length-append, get_or-set_other, get_or-set_same, pow_mono}
 use native.Mathlib.Nat.{zero-div, mod-one, mul-mod_left, div-eq_of_lt}
 use lib.Bits.{bit_or, or_zero_l, or_zero_r}
 use lib.ListN.{length-replicate}
 use Rattle.std.specs.List.{AllByRecursion as All}
-use Rattle.std.proofs.lemmas.Nat.{pow_pos, pow-add, shl-shr, or_shr, or_mod, mod-pow-add, shl_below}
-use Rattle.std.proofs.ByRecursion.{All-append}
+use Rattle.std.proofs.lemmas.Nat.{pow-add, shl-shr, or_shr, or_mod, mod-pow-add, shl_below}
 use Rattle.std.proofs.lemmas.List.{get_or_append_left, get_or-append_right}
 use Rattle.std.proofs.lemmas.Bool.Decides.{eqb_tells, leb_tells}
 use Rattle.packed.specs.Bits.{bit, field, field_at}
 use Rattle.packed.specs.Packing.{digits_of, with_bit, with_digits}
 use Rattle.packed.proofs.Fields.{field-none, field_more, read_inside}
-use Rattle.packed.proofs.Writing.{digits_more, length_digits, with_none, with_more, length-with-bit}
+use Rattle.packed.proofs.Writing.{digits_more, with_none, with_more, length-with-bit}
 
 -- one digit beside another in a byte
 binary_mod : (d : ℕ) → d < 2 → d % 2 ≡ d

@@ -1,5 +1,5 @@
 -- A packed sheet reads back as the header and the edits that it was packed from: each field is read where it was written, and each edit where the one before it ends.
-use Rattle.std.proofs.Common.{◌≡◌, ℕ, zero, suc, ◌+◌, ◌-◌, ◌*◌, ◌/◌, ◌%◌, ◌^◌, ◌<◌, ◌≤◌, Bool, true, false, cond, T, eqb, List, [], ◌∷◌, ◌++◌, length, get_or, replicate, Some, None, Ok, Err, Result, sym, refl, ap, ◌∙◌, subst, arith, length-append, le-ltb, leb-true}
+use Rattle.std.proofs.Common.{◌≡◌, ℕ, zero, suc, ◌+◌, ◌*◌, ◌/◌, ◌^◌, ◌<◌, ◌≤◌, Bool, true, false, T, eqb, List, [], ◌∷◌, ◌++◌, length, get_or, replicate, None, Ok, sym, refl, ap, ◌∙◌, subst, arith, length-append, le-ltb, leb-true}
 use borrow.Author.Tests.{clash}
 use lib.Ieee.{Float, binary64, to_bits, of_bits, fits}
 use lib.Ieee.Bits.{of_bits-to_bits, to_bits-lt}
@@ -17,10 +17,10 @@ use Rattle.packed.specs.declared.sheets.Edit.{Edit}
 use Rattle.packed.specs.declared.sheets.Edit.TheVariants.{Add, Move, Drop, TakeBack}
 use Rattle.packed.specs.Bits.{bit, field_at}
 use Rattle.packed.specs.Sheets.{header_of, edit_at, edit_of, add_at, move_at, drop_at, point_at, end_of, first_one, fill_bits, winding_of, surface_of}
-use Rattle.packed.specs.Packing.{digits_of, point_digits, edit_digits, edits_digits, header_digits, width_of, winding_bit, signed_bit, surface_bits, place_fits, IsFloat, Fitting, with_digits, bytes_for, sheet_bytes, ReadsEdits, ReadsBack}
+use Rattle.packed.specs.Packing.{digits_of, point_digits, edit_digits, edits_digits, header_digits, width_of, winding_bit, signed_bit, surface_bits, IsFloat, Fitting, bytes_for, sheet_bytes, ReadsEdits, ReadsBack}
 use Rattle.packed.proofs.Fields.{first_none, first_later, read_inside}
 use Rattle.packed.proofs.Reading.{Spells, first_part, second_part, reads_field, written-bits}
-use Rattle.packed.proofs.Writing.{digits_more, edits_more, edits_none, length_digits, length_edit, length-header, length-with}
+use Rattle.packed.proofs.Writing.{edits_more, edits_none, length_digits, length_edit, length-header, length-with}
 
 -- every digit is 0 or 1
 abbrev Binary : List ℕ → Type 0

@@ -1,11 +1,10 @@
 -- Digits are set one by one, so those of one field after those of another are the digits of both; the length of the bytes stays.
-use Rattle.std.proofs.Common.{◌≡◌, ℕ, zero, suc, ◌+◌, ◌-◌, ◌*◌, ◌/◌, ◌%◌, ◌^◌, ◌<◌, ◌≤◌, Bool, true, false, cond, List, [], ◌∷◌, ◌++◌, length, get_or, drop, set, Ok, Err, Result, sym, refl, ap, ◌∙◌, subst, arith, length-append, length-set, drop-cons, le-leb}
+use Rattle.std.proofs.Common.{◌≡◌, ℕ, zero, suc, ◌+◌, ◌-◌, ◌*◌, ◌/◌, ◌%◌, ◌^◌, ◌<◌, ◌≤◌, true, false, List, [], ◌∷◌, ◌++◌, length, get_or, drop, Ok, Err, sym, refl, ap, ◌∙◌, arith, length-append, length-set, drop-cons, le-leb}
 use borrow.Author.Tests.{lt-leb}
 use lib.Bits.{bit_or}
 use lib.Ieee.{binary64, to_bits}
 use Rattle.std.proofs.lemmas.Nat.{shl_whole}
-use Rattle.packed.specs.declared.packs.PackFault.{PackFault}
-use Rattle.packed.specs.declared.packs.PackFault.TheVariants.{Count, Place, TooLong}
+use Rattle.packed.specs.declared.packs.PackFault.TheVariants.{Place, TooLong}
 use Rattle.packed.specs.declared.sheets.Edit.{Edit}
 use Rattle.packed.specs.declared.sheets.Edit.TheVariants.{Add, Move, Drop, TakeBack}
 use Rattle.packed.specs.declared.sheets.Header.{Header}

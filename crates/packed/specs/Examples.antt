@@ -1,14 +1,14 @@
 -- Sheets worked by hand, byte by byte. Assumes nothing.
 use Rattle.std.specs.Prelude.{◌≡◌, ℕ, true, false, List, [], ◌∷◌, ◌++◌, replicate, Ok, Err, from_bits}
-use Rattle.std.specs.Float.{binary64, nan}
+use Rattle.std.specs.Float.{binary64}
 use Rattle.area.specs.declared.Winding.TheVariants.{Clockwise, CounterClockwise}
-use Rattle.packed.specs.declared.faults.BitFault.TheVariants.{Ends, TooLong}
+use Rattle.packed.specs.declared.faults.BitFault.TheVariants.{Ends}
 use Rattle.packed.specs.declared.faults.FieldFault.TheVariants.{Bits, Edition, Surface, Fill, Surplus}
 use Rattle.packed.specs.declared.faults.SheetFault.TheVariants.{Field}
 use Rattle.packed.specs.declared.faults.Layer.TheVariants as layers
 use Rattle.packed.specs.declared.sheets.SurfaceKind.TheVariants.{Wgs84, Plate}
-use Rattle.packed.specs.declared.sheets.Edit.TheVariants.{Add, Move, Drop, TakeBack}
-use Rattle.packed.specs.Faults.{told, in_edit}
+use Rattle.packed.specs.declared.sheets.Edit.TheVariants.{Add, Drop, TakeBack}
+use Rattle.packed.specs.Faults.{told}
 use Rattle.packed.specs.Sheets.{header_of, edit_of, end_of}
 
 abbrev header : List ℕ

@@ -1,8 +1,7 @@
 -- What is told of a fault: its layer, its number, the edit (0 is the header) and the bit. Assumes nothing.
-use Rattle.std.specs.Prelude.{ℕ, Ok, Err, Result}
+use Rattle.std.specs.Prelude.{ℕ, Result}
 use Rattle.std.specs.Result.{result_map_both}
 use Rattle.surface.specs.Refusals.{number_of}
-use Rattle.packed.specs.declared.faults.BitFault.{BitFault}
 use Rattle.packed.specs.declared.faults.BitFault.TheVariants.{Ends, TooLong}
 use Rattle.packed.specs.declared.faults.FieldFault.{FieldFault}
 use Rattle.packed.specs.declared.faults.FieldFault.TheVariants as fields

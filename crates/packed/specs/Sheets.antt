@@ -1,5 +1,5 @@
 -- A packed sheet: its header, its edits and its end, with the fault that reading them in file order meets first. Assumes nothing.
-use Rattle.std.specs.Prelude.{ℕ, zero, suc, ◌+◌, ◌-◌, ◌*◌, ◌%◌, Bool, cond, List, length, Some, None, Ok, Err, Option, Result, ◌==◌, from_bits, nat_lt, Float}
+use Rattle.std.specs.Prelude.{ℕ, zero, suc, ◌+◌, ◌-◌, ◌*◌, ◌%◌, cond, List, length, Some, None, Ok, Err, Option, Result, ◌==◌, from_bits, nat_lt, Float}
 use Rattle.std.specs.Float.{binary64}
 use Rattle.std.specs.Result.{result_map_both}
 use Rattle.area.specs.declared.Winding.{Winding}

@@ -5,7 +5,6 @@ use Rattle.floats.specs.Arithmetic.{◌⊕◌}
 use Rattle.area.specs.declared.Winding.{Winding}
 use Rattle.polygon.specs.declared.Point.{Point}
 use Rattle.polygon.specs.declared.Traverse.{Traverse}
-use Rattle.polygon.specs.Transits.{transit_of}
 use Rattle.polygon.specs.Polygons.{Ends, Solve, edges_from, open_edges, first_of, last_after, added_to, counted_to, lengths, strips, transits, figures_of}
 use Rattle.polygon.specs.Traverses.{begun, started, extended, fed, fed_all, closed}
 use Rattle.polygon.proofs.Feeding.{fed_later}

@@ -1,5 +1,5 @@
 -- The area law of a polygon is that of the reduction, at the sum over its edges.
-use Rattle.std.proofs.Common.{◌≡◌, Bool, true, false, ◌&&◌, T, List, [], ◌∷◌, sym, subst}
+use Rattle.std.proofs.Common.{◌≡◌, Bool, true, ◌&&◌, T, List, [], ◌∷◌, sym, subst}
 use lib.Ieee.{Float, binary64, fits, of_bits}
 use lib.Ieee.Fits.{add-fits, and_l, and_r}
 use lib.Ieee.Bits.{of_bits-fits, is_true}
@@ -7,8 +7,8 @@ use Rattle.std.specs.Float.{float_is_finite}
 use Rattle.floats.specs.Arithmetic.{◌⊕◌, ◌≽◌}
 use Rattle.surface.specs.Wholes.{whole_fits, least_whole}
 use Rattle.area.specs.declared.Winding.{Winding}
-use Rattle.area.specs.Reduction.{is_odd, reduced_area}
-use Rattle.area.specs.AreaLaw.{WholeArea, AreaLaw}
+use Rattle.area.specs.Reduction.{is_odd}
+use Rattle.area.specs.AreaLaw.{WholeArea}
 use Rattle.area.proofs.Law.{area_law}
 use Rattle.polygon.specs.declared.Point.{Point}
 use Rattle.polygon.specs.Polygons.{Solve, added_to, strips, edges_of, area_sum_of, crossings_of, area_of}

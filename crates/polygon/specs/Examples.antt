@@ -1,5 +1,5 @@
 -- Worked examples of the definitions: angles, accepted points, crossings of the prime meridian, reduced areas, and a square on the plate. Assumes nothing.
-use Rattle.std.specs.Prelude.{◌≡◌, ℕ, Bool, true, false, List, [], ◌∷◌, ℤ, pos, negsuc, neg_ℤ, Some, None, Option, Float}
+use Rattle.std.specs.Prelude.{◌≡◌, ℕ, Bool, true, false, List, [], ◌∷◌, pos, neg_ℤ, Some, None, Float}
 use Rattle.std.specs.Float.{binary64}
 use Rattle.std.specs.Float.Ieee.{neg, of_int}
 use Rattle.floats.specs.Arithmetic.{bits}

@@ -1,5 +1,5 @@
 -- The perimeter and the area of a polygon, of a list of points alone: no program is spoken of here. Assumes nothing.
-use Rattle.std.specs.Prelude.{ℕ, Bool, List, [], ◌∷◌, ◌++◌, map, length, ℤ, pos, ◌+ℤ◌, Float}
+use Rattle.std.specs.Prelude.{Bool, List, [], ◌∷◌, ◌++◌, map, length, ℤ, pos, ◌+ℤ◌, Float}
 use Rattle.floats.specs.Arithmetic.{◌⊕◌}
 use Rattle.geomath.specs.Angles.{zero}
 use Rattle.surface.specs.declared.Edge.{Edge}

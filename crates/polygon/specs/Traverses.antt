@@ -1,5 +1,5 @@
 -- What a PolygonArea keeps of the points given so far, and how a point changes it. Assumes nothing.
-use Rattle.std.specs.Prelude.{ℕ, ◌+◌, Bool, cond, List, [], ◌∷◌, ℤ, pos, ◌+ℤ◌, Some, None, Option, ◌==◌, Float}
+use Rattle.std.specs.Prelude.{ℕ, ◌+◌, Bool, cond, List, [], ◌∷◌, pos, ◌+ℤ◌, Some, None, Option, ◌==◌, Float}
 use Rattle.floats.specs.Arithmetic.{◌⊕◌}
 use Rattle.geomath.specs.Angles.{zero, accepts}
 use Rattle.surface.specs.declared.refusals.Refusal.{Refusal}
@@ -10,7 +10,7 @@ use Rattle.polygon.specs.declared.Point.{Point}
 use Rattle.polygon.specs.declared.Figures.{Figures}
 use Rattle.polygon.specs.declared.Traverse.{Traverse}
 use Rattle.polygon.specs.Transits.{transit_of}
-use Rattle.polygon.specs.Polygons.{Solve, Ends, solved, origin}
+use Rattle.polygon.specs.Polygons.{Solve, solved, origin}
 
 -- before the first point
 abbrev pub begun : Traverse

@@ -1,10 +1,10 @@
 -- What putting in and taking out give where they change the row, and where they do not.
-use Rattle.std.proofs.Common.{◌≡◌, ℕ, suc, ◌+◌, ◌-◌, ◌<◌, ◌≤◌, ltb, leb, List, ◌++◌, length, take, drop, refl, ap, ◌∙◌, ⊎_elim, arith}
+use Rattle.std.proofs.Common.{◌≡◌, ℕ, suc, ◌+◌, ◌-◌, ◌<◌, ◌≤◌, ltb, leb, List, ◌++◌, length, take, drop, ap, ◌∙◌, ⊎_elim, arith}
 use Rattle.std.specs.List.{insert, remove}
 use Rattle.std.proofs.lemmas.List.{length-append, length-drop, length-take-le}
 use Rattle.std.proofs.lemmas.List.Edits.{length-insert, length-remove}
 use Rattle.std.proofs.lemmas.Bool.{lt-ltb, le-ltb, le-leb, lt-leb, and_right, cases_lt}
-use Rattle.rows.specs.Rows.{has_room, is_in_use, put_in, take_out}
+use Rattle.rows.specs.Rows.{put_in, take_out}
 
 module _ {X : Type 0} (row : List X) (count place : ℕ) where
   pub put_in_place : (item : X) → place ≤ count → count < length row → put_in row count place item ≡ insert (take count row) place item ++ drop (suc count) row

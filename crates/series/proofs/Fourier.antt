@@ -1,5 +1,5 @@
 -- The coefficients row by row: one more is put behind those that stand, and its row is passed over in the table.
-use Rattle.std.proofs.Common.{◌≡◌, ℕ, suc, ◌+◌, ◌-◌, ◌*◌, ◌/◌, ◌<◌, ◌≤◌, List, [], ◌∷◌, ◌++◌, length, take, drop, set, sym, refl, ap, ◌∙◌, append_assoc, arith, take_all, drop-drop}
+use Rattle.std.proofs.Common.{◌≡◌, ℕ, suc, ◌+◌, ◌-◌, ◌*◌, ◌/◌, ◌<◌, ◌≤◌, List, [], ◌∷◌, ◌++◌, length, take, drop, set, sym, ap, ◌∙◌, append_assoc, arith, take_all, drop-drop}
 use lib.Ieee.{Float}
 use Rattle.std.proofs.lemmas.List.{append-nil, take_more_set}
 use Rattle.floats.specs.Arithmetic.{◌⊗◌, ◌⊘◌}

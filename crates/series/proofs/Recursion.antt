@@ -1,5 +1,5 @@
 -- Clenshaw's recursion from the last coefficient on: how it starts, and the two steps of a turn.
-use Rattle.std.proofs.Common.{◌≡◌, ℕ, zero, suc, ◌+◌, ◌-◌, ◌*◌, ◌/◌, ◌%◌, ◌<◌, ◌≤◌, List, [], ◌∷◌, length, get_or, drop, sym, refl, ap, ◌∙◌, arith}
+use Rattle.std.proofs.Common.{◌≡◌, ℕ, zero, suc, ◌+◌, ◌-◌, ◌*◌, ◌/◌, ◌%◌, ◌<◌, ◌≤◌, List, ◌∷◌, length, get_or, drop, sym, ap, ◌∙◌, arith}
 use lib.Ieee.{Float, nan}
 use Rattle.std.proofs.lemmas.List.{drop_all, drop_more}
 use Rattle.geomath.specs.Angles as Angles

@@ -1,6 +1,6 @@
 -- A row that a table does not hold to its end: the coefficients that are left, and no divisor.
 use Rattle.std.proofs.Common.{◌≡◌, ℕ, ◌+◌, ◌-◌, ◌≤◌, List, length, get_or, take, drop, sym, refl, ap, ◌∙◌, arith, take_all}
-use lib.Ieee.{Float, nan, inf, fin, of_bits, binary64, div}
+use lib.Ieee.{Float, nan, inf, fin, of_bits, div}
 use Rattle.std.proofs.lemmas.List.{get_or_past}
 use Rattle.floats.specs.Arithmetic.{bits, ◌⊘◌}
 use Rattle.floats.specs.Polynomials.{polynomial}

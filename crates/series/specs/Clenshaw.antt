@@ -1,5 +1,5 @@
 -- Trigonometric sums by Clenshaw's recursion. Assumes nothing.
-use Rattle.std.specs.Prelude.{Bool, true, false, cond, List, [], ◌∷◌, drop, Float}
+use Rattle.std.specs.Prelude.{Bool, cond, List, [], ◌∷◌, drop, Float}
 use Rattle.floats.specs.Arithmetic.{◌⊕◌, ◌⊖◌, ◌⊗◌}
 use Rattle.geomath.specs.Angles.{zero, two}
 

@@ -1,11 +1,11 @@
 -- What drawing stations anew gives: nothing where none is in use, no edge in the first, one edge in a later one.
-use Rattle.std.proofs.Common.{◌≡◌, ℕ, ◌+◌, ◌-◌, ◌<◌, ◌≤◌, true, false, ltb, leb, ◌⊎◌, List, length, set, refl, inl, inr, arith}
+use Rattle.std.proofs.Common.{◌≡◌, ℕ, ◌+◌, ◌-◌, ◌<◌, ◌≤◌, true, false, ltb, leb, ◌⊎◌, List, length, set, inl, inr, arith}
 use Rattle.std.proofs.lemmas.Bool.{lt-ltb, le-ltb, le-leb, lt-leb, and_from, and_left, and_right, eq-eqb, ne_eqb}
 use Rattle.polygon.specs.Polygons.{Solve}
 use Rattle.stations.specs.declared.Station.{Station}
 use Rattle.polygon.specs.declared.Point.{Point}
 use Rattle.rows.specs.Rows.{has_room, is_in_use, put_in, take_out}
-use Rattle.stations.specs.Stations.{Drawing, point_at, first_station, next_station, free, one_edge, unchanged, redrawn, redrawn_twice, placed, moved, dropped}
+use Rattle.stations.specs.Stations.{point_at, first_station, next_station, free, one_edge, unchanged, redrawn, redrawn_twice, placed, moved, dropped}
 
 -- ---- the two tests on a row
 

@@ -1,5 +1,5 @@
 -- Edit records: what is noted of an edit, when a record fits an outline, and which records a row holds. Assumes nothing.
-use Rattle.std.specs.Prelude.{ℕ, ◌+◌, ◌-◌, Bool, false, cond, ◌&&◌, List, [], ◌∷◌, length, ◌==◌, nat_le, nat_lt}
+use Rattle.std.specs.Prelude.{ℕ, ◌+◌, ◌-◌, Bool, false, cond, ◌&&◌, List, length, ◌==◌, nat_le, nat_lt}
 use Rattle.geomath.specs.Angles.{zero, accepts}
 use Rattle.polygon.specs.declared.Point.{Point}
 use Rattle.rows.specs.Rows.{put_in, take_out}

@@ -1,11 +1,10 @@
 -- A station and the edge that arrives at it, drawn from the point before. Assumes nothing.
-use Rattle.std.specs.Prelude.{ℕ, ◌+◌, ◌-◌, Bool, cond, ◌&&◌, List, [], ◌∷◌, pos, ◌==◌, slice_index_or, slice_set, Float}
+use Rattle.std.specs.Prelude.{ℕ, ◌+◌, ◌-◌, cond, List, pos, ◌==◌, slice_index_or, slice_set}
 use Rattle.std.specs.Float.{nan}
 use Rattle.geomath.specs.Angles.{zero}
-use Rattle.surface.specs.declared.Edge.{Edge}
 use Rattle.polygon.specs.declared.Point.{Point}
 use Rattle.polygon.specs.Transits.{transit_of}
-use Rattle.polygon.specs.Polygons.{Solve, solved}
+use Rattle.polygon.specs.Polygons.{Solve}
 use Rattle.rows.specs.Rows.{has_room, is_in_use, put_in, take_out}
 use Rattle.stations.specs.declared.Station.{Station}
 use Rattle.stations.specs.declared.Cost.{Cost}

@@ -53,11 +53,12 @@ impl EditRecord {
     pub fn dropped(place: u16, old: Point) -> EditRecord
         ensures { result ≡ drop_record place old }
     {
+        let Point { lat, lon } = old;
         EditRecord {
             kind: DROP,
             place,
-            lat: old.lat,
-            lon: old.lon,
+            lat,
+            lon,
         }
     }
 

@@ -1,5 +1,5 @@
 -- The plate carrée: degrees of longitude and latitude are its coordinates, k sheet units to a degree. Assumes nothing.
-use Rattle.std.specs.Prelude.{Bool, cond, ◌&&◌, Some, None, Option, Float}
+use Rattle.std.specs.Prelude.{cond, ◌&&◌, Some, None, Option, Float}
 use Rattle.std.specs.Float.{sqrt, binary64}
 use Rattle.floats.specs.Arithmetic.{◌⊕◌, ◌⊖◌, ◌⊗◌, ◌⊘◌, ◌≼◌, ◌≽◌, bits}
 use Rattle.geomath.specs.Angles.{one, two, square, ang_diff}

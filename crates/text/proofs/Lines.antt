@@ -1,5 +1,5 @@
 -- A text whose first newline follows xs has xs as its first line; the line ends where the longest front without a newline does.
-use Rattle.std.proofs.Common.{◌≡◌, ℕ, suc, ◌+◌, ◌<◌, false, not, List, [], ◌∷◌, ◌++◌, length, get_or, take, drop, sym, refl, ap, ◌∙◌, subst, arith, length-append}
+use Rattle.std.proofs.Common.{◌≡◌, ℕ, suc, ◌<◌, false, not, List, [], ◌∷◌, ◌++◌, length, get_or, take, drop, sym, refl, ap, ◌∙◌, subst, arith, length-append}
 use Rattle.text.specs.Words.{front, newline, first_line, after_line, lines_of, grown}
 
 -- no byte of the list is a newline

@@ -1,5 +1,5 @@
 use Rattle.std.proofs.Common.{◌≡◌, T, sym, subst, rules}
-use lib.Ieee.{Float, binary64, fits}
+use lib.Ieee.{binary64, fits}
 use Rattle.area.proofs.reduce_area.Goals as goal
 use Rattle.area.proofs.Law.{area_law}
 use Rattle.area.specs.Reduction.{is_odd, reduced_area}

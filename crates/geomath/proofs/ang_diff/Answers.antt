@@ -1,6 +1,6 @@
 -- The two sums are error free, and the test picks where the second one starts; the law holds of the definition.
 use Rattle.std.proofs.Common.{T, rules}
-use lib.Ieee.{Float, binary64, fits}
+use lib.Ieee.{binary64, fits}
 use Rattle.geomath.specs.Angles.{ang_diff, ang_diff_error}
 use Rattle.geomath.proofs.Difference.{difference}
 use Rattle.geomath.proofs.ang_diff.Goals as goal

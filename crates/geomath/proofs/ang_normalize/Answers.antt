@@ -1,6 +1,6 @@
 -- The remainder by a turn, with a half turn to the west written as one to the east; the law holds of the definition.
 use Rattle.std.proofs.Common.{T, rules}
-use lib.Ieee.{Float, binary64, fits}
+use lib.Ieee.{binary64, fits}
 use Rattle.geomath.specs.Angles.{ang_normalize}
 use Rattle.geomath.proofs.Normalized.{normalized}
 use Rattle.geomath.proofs.ang_normalize.Goals as goal

@@ -1,4 +1,4 @@
-use Rattle.std.proofs.Common.{◌+◌, ◌-◌, set, sym, ap, ◌∙◌, ⊎_elim}
+use Rattle.std.proofs.Common.{◌-◌, set, sym, ap, ◌∙◌, ⊎_elim}
 use borrow.Rule.Slice.PartMut.{put_mid}
 use Rattle.rows.proofs.Rotations.{take_out_by_rotation}
 use Rattle.rows.proofs.Changes.{take_out_place, take_out_above, take_out_past}

@@ -1,7 +1,6 @@
 -- The point is put in, then its station and the next are drawn.
 use Rattle.std.proofs.Common.{◌≡◌, ◌+◌, sym, ap, ◌∙◌, arith}
 use Rattle.rows.specs.Rows.{put_in}
-use Rattle.stations.specs.declared.Station.{Station}
 use Rattle.stations.specs.Stations.{Drawing, first_station, unchanged, redrawn_twice, placed}
 use Rattle.stations.proofs.Redrawing.{room, no_room, placed_room, placed_not}
 use Rattle.stations.proofs.place_point.Goals as goal

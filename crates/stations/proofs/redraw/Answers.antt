@@ -1,5 +1,5 @@
 -- A station is drawn from the points that the code reads out of the row.
-use Rattle.std.proofs.Common.{◌≡◌, ◌-◌, ◌<◌, ◌≤◌, set, sym, ap, ◌∙◌, arith}
+use Rattle.std.proofs.Common.{◌≡◌, ◌-◌, ◌<◌, set, sym, ap, ◌∙◌, arith}
 use Rattle.stations.specs.declared.Station.{Station}
 use Rattle.stations.specs.Stations.{Drawing, point_at, one_edge, unchanged, first_station, next_station, redrawn}
 use Rattle.stations.proofs.Redrawing.{used, not_used, redrawn_not, redrawn_first, redrawn-next}

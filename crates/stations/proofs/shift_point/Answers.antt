@@ -1,6 +1,6 @@
 -- The point is written, then its station and the next are drawn.
 use Rattle.std.proofs.Common.{◌≡◌, set, sym, ap, ◌∙◌, arith}
-use Rattle.stations.specs.Stations.{Drawing, first_station, unchanged, redrawn_twice, moved}
+use Rattle.stations.specs.Stations.{Drawing, unchanged, redrawn_twice, moved}
 use Rattle.stations.proofs.Redrawing.{used, not_used, moved_used, moved_not}
 use Rattle.stations.proofs.shift_point.Goals as goal
 

@@ -1,6 +1,5 @@
 -- Sixteen digits write a pattern, and no other text does.
 use Rattle.std.proofs.Common.{Some, ap, ◌∙◌, arith}
-use Rattle.std.specs.Str.Parse.{digits_value}
 use Rattle.std.proofs.lemmas.Bool.Decides.{nat_tests}
 use Rattle.text.specs.Patterns.{pattern_of}
 use Rattle.text.proofs.Digits.{pattern_some, pattern_none}

@@ -1,5 +1,5 @@
 -- The five rows, behind an element 0.
-use Rattle.std.proofs.Common.{◌≡◌, List, [], ◌∷◌, get_or, sym, refl, ap, ◌∙◌}
+use Rattle.std.proofs.Common.{◌≡◌, List, [], ◌∷◌, get_or, refl, ap, ◌∙◌}
 use lib.Ieee.{Float, nan}
 use Rattle.floats.specs.Arithmetic.{bits}
 use Rattle.ellipsoid.specs.Expansions.{C3f, triangle}

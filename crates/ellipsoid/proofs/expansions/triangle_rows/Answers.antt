@@ -1,5 +1,5 @@
 -- Each turn puts one more row's value behind those that stand.
-use Rattle.std.proofs.Common.{ℕ, ◌+◌, ◌-◌, ◌++◌, take, drop, set, refl, ap, ◌∙◌, arith, lit≤, length-set}
+use Rattle.std.proofs.Common.{◌-◌, drop, ap, ◌∙◌, arith, lit≤, length-set}
 use native.Mathlib.Nat.{sub-zero}
 use lib.Ieee.{of_bits, binary64, mul}
 use lib.ListN.{length-replicate}

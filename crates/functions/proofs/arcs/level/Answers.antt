@@ -1,5 +1,5 @@
 -- A NaN counts as not negative.
-use Rattle.std.proofs.Common.{◌≡◌, true, cond, sym, refl}
+use Rattle.std.proofs.Common.{◌≡◌, true, sym, refl}
 use lib.Ieee.{Float, nan, inf, fin, is_nan}
 use Rattle.floats.specs.Arithmetic.{bits}
 use Rattle.functions.specs.Arcs.{level_of}

@@ -1,5 +1,5 @@
 -- The table holds the rounded quotients that the definition names: both are computed, and are the same floats.
-use Rattle.std.proofs.Common.{◌≡◌, refl, ap, ◌∙◌}
+use Rattle.std.proofs.Common.{refl, ap, ◌∙◌}
 use lib.Ieee.{of_bits, of_int, div}
 use Rattle.floats.specs.Arithmetic.{◌⊗◌}
 use Rattle.floats.specs.Polynomials.{polynomial}

@@ -1,5 +1,5 @@
 -- The size of a finite number is finite and not negative.
-use Rattle.std.proofs.Common.{◌≡◌, true, false, sym, refl, ap, ◌∙◌}
+use Rattle.std.proofs.Common.{◌≡◌, false, sym, refl, ap, ◌∙◌}
 use lib.Ieee.{Float, nan, inf, fin}
 use Rattle.std.specs.Float.{float_is_finite, is_sign_negative, float_with_sign}
 use Rattle.functions.proofs.cube_root.cube_root.Goals as goal

@@ -1,5 +1,5 @@
 -- The digits of a pattern are what its leading zeros leave.
-use Rattle.std.proofs.Common.{◌≡◌, ℕ, ◌+◌, ◌-◌, ◌/◌, ◌^◌, Bool, cond, sym, ap, ◌∙◌, eq-eqb}
+use Rattle.std.proofs.Common.{ℕ, ◌+◌, ◌-◌, ◌/◌, ◌^◌, Bool, cond, sym, ap, ◌∙◌, eq-eqb}
 use lib.Ieee.{size}
 use Rattle.functions.proofs.Places.{size-leading}
 use Rattle.functions.proofs.cube_root.place.Goals as goal

@@ -1,5 +1,5 @@
 -- A shift within 64 bits loses nothing, and what it makes is the pattern of the power.
-use Rattle.std.proofs.Common.{◌≡◌, ℕ, ◌-◌, ◌*◌, ◌%◌, ◌^◌, ◌<◌, ◌≤◌, ap, ◌∙◌, lt_of_lt_of_le, mod-eq_of_lt, one-mul, arith, lit≤}
+use Rattle.std.proofs.Common.{ℕ, ◌-◌, ◌*◌, ◌%◌, ◌^◌, ◌<◌, ◌≤◌, ap, ◌∙◌, lt_of_lt_of_le, mod-eq_of_lt, one-mul, arith, lit≤}
 use lib.Pow.{pow-lt}
 use lib.Ieee.{binary64, of_bits}
 use Rattle.functions.proofs.Powers.{small_power, large_power}

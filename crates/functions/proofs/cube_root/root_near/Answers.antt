@@ -1,7 +1,7 @@
 -- The steps that are left from here lead to the same root as all steps from the first guess.
 use Rattle.std.proofs.Common.{◌≡◌, ℕ, suc, ◌+◌, ◌-◌, ◌<◌, ◌≤◌, sym, refl, ap, ◌∙◌, arith}
 use lib.Ieee.{Float}
-use Rattle.functions.specs.CubeRoot.{improved, improved_times, first_guess}
+use Rattle.functions.specs.CubeRoot.{improved, improved_times}
 use Rattle.functions.proofs.cube_root.root_near.Goals as goal
 
 one_less : (i : ℕ) → i < 5 → 5 - i ≡ suc (5 - (i + 1))

@@ -1,4 +1,4 @@
-use Rattle.std.proofs.Common.{◌≡◌, ℕ, suc, ◌+◌, ◌*◌, ◌^◌, ◌<◌, ◌≤◌, sym, refl, ap, ◌∙◌, subst, add-one, arith, pow_mono}
+use Rattle.std.proofs.Common.{◌≡◌, ℕ, suc, ◌+◌, ◌*◌, ◌^◌, ◌<◌, sym, ap, ◌∙◌, subst, add-one, arith, pow_mono}
 use Rattle.packed.specs.Bits.{bit, field}
 use Rattle.packed.proofs.Fields.{bit_below, field-none, field_more, one_more_below}
 use Rattle.packed.proofs.bits.number_at.Goals as goal

@@ -1,4 +1,4 @@
-use Rattle.std.proofs.Common.{◌≡◌, ◌^◌, ◌<◌, Ok, sym, ap, ◌∙◌, subst, arith}
+use Rattle.std.proofs.Common.{◌^◌, ◌<◌, Ok, sym, ap, ◌∙◌, subst, arith}
 use Rattle.packed.proofs.Fields.{field_below, read_inside, read_past, read_long}
 use Rattle.packed.proofs.Numbers.{fields_are_numbers}
 use Rattle.packed.proofs.bits.read_at.Goals as goal

@@ -1,8 +1,8 @@
-use Rattle.std.proofs.Common.{◌≡◌, ℕ, suc, ◌+◌, ◌<◌, ◌≤◌, length, take, drop, sym, ap, ◌∙◌, subst, add_assoc, add-one, arith, drop_of_length-le}
+use Rattle.std.proofs.Common.{◌≡◌, ℕ, suc, ◌+◌, ◌<◌, ◌≤◌, length, drop, sym, ap, ◌∙◌, subst, add_assoc, add-one, arith, drop_of_length-le}
 use Rattle.std.proofs.lemmas.List.{take_all}
 use Rattle.std.specs.List.{AllByRecursion as All}
 use Rattle.std.proofs.ByRecursion.{All-more}
-use Rattle.packed.specs.Packing.{packed_end, edits_digits, width_of, Fitting}
+use Rattle.packed.specs.Packing.{packed_end, edits_digits, Fitting}
 use Rattle.packed.proofs.Writing.{end_none, end_misplaced, end_long, end_more, end_from, edits_none, length_edits_from}
 use Rattle.packed.proofs.packs.edits_end.Goals as goal
 

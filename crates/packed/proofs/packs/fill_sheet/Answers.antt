@@ -1,4 +1,4 @@
-use Rattle.std.proofs.Common.{◌≡◌, ◌++◌, ap, ◌∙◌}
+use Rattle.std.proofs.Common.{◌++◌, ap, ◌∙◌}
 use Rattle.std.proofs.lemmas.List.{take_at}
 use Rattle.packed.specs.Packing.{with_digits, header_digits, edits_digits}
 use Rattle.packed.proofs.packs.fill_sheet.Goals as goal

@@ -1,6 +1,6 @@
-use Rattle.std.proofs.Common.{◌≡◌, ℕ, ◌+◌, ◌*◌, ◌/◌, ◌^◌, ◌<◌, ◌≤◌, cond, ◌++◌, length, replicate, Ok, Err, vec_items, vec_len, sym, refl, ap, ◌∙◌, subst, inl, inr, arith, rules, eq-eqb, ne_eqb}
+use Rattle.std.proofs.Common.{◌≡◌, ◌*◌, ◌≤◌, ◌++◌, length, Ok, vec_items, vec_len, sym, refl, ap, ◌∙◌, subst, inl, inr, rules, eq-eqb, ne_eqb}
 use Rattle.packed.specs.declared.packs.PackFault.TheVariants.{NoMemory}
-use Rattle.packed.specs.Packing.{packed_sheet, edits_digits, header_digits, with_digits, bytes_for, sheet_bytes, ReadsBack}
+use Rattle.packed.specs.Packing.{packed_sheet, edits_digits, header_digits, with_digits, sheet_bytes, ReadsBack}
 use Rattle.packed.proofs.Exits.{leaves}
 use Rattle.packed.proofs.RoundTrip.{sheet_reads_back, room}
 use Rattle.packed.proofs.packs.pack.Goals as goal

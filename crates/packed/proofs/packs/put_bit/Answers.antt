@@ -1,4 +1,4 @@
-use Rattle.std.proofs.Common.{◌≡◌, ℕ, ◌-◌, ◌*◌, ◌/◌, ◌%◌, ◌^◌, ◌<◌, ◌≤◌, get_or, set, ap, arith}
+use Rattle.std.proofs.Common.{◌-◌, ◌/◌, ◌%◌, get_or, set, ap, arith}
 use lib.Bits.{bit_or}
 use Rattle.packed.specs.Packing.{with_bit}
 use Rattle.packed.proofs.Writing.{digit_shifted}

@@ -1,5 +1,5 @@
-use Rattle.std.proofs.Common.{◌≡◌, ℕ, suc, ◌+◌, ◌*◌, ◌<◌, ◌≤◌, List, [], length, get_or, drop, sym, ap, ◌∙◌, subst, add_assoc, add-one, arith, drop_of_length-le}
-use Rattle.packed.specs.Packing.{with_digits, edits_digits, edit_digits, width_of}
+use Rattle.std.proofs.Common.{◌≡◌, ℕ, suc, ◌+◌, ◌*◌, ◌≤◌, length, drop, sym, ap, ◌∙◌, add_assoc, add-one, arith, drop_of_length-le}
+use Rattle.packed.specs.Packing.{with_digits, edits_digits}
 use Rattle.packed.proofs.Writing.{edits_from, edits_none, length_edits_from, then_edit, with_none}
 use Rattle.packed.proofs.packs.put_edits.Goals as goal
 

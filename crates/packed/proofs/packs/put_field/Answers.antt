@@ -1,4 +1,4 @@
-use Rattle.std.proofs.Common.{◌≡◌, ℕ, suc, ◌+◌, ◌-◌, ◌/◌, ◌%◌, ◌^◌, ◌<◌, sym, refl, ap, ◌∙◌, arith}
+use Rattle.std.proofs.Common.{◌≡◌, ℕ, suc, ◌+◌, ◌-◌, ◌/◌, ◌%◌, ◌^◌, ◌<◌, sym, ap, ◌∙◌, arith}
 use Rattle.packed.specs.Packing.{with_bit, with_digits, digits_of}
 use Rattle.packed.proofs.Writing.{digits_none, digits_more, with_none, with_more}
 use Rattle.packed.proofs.packs.put_field.Goals as goal

@@ -1,4 +1,4 @@
-use Rattle.std.proofs.Common.{◌≡◌, ◌+◌, ◌-◌, length}
+use Rattle.std.proofs.Common.{◌≡◌, ◌+◌, ◌-◌}
 use Rattle.packed.specs.Packing.{with_digits, digits_of}
 use Rattle.packed.proofs.packs.put_field.Given as goal
 

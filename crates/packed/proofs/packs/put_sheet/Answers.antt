@@ -1,4 +1,4 @@
-use Rattle.std.proofs.Common.{◌≡◌, ◌+◌, sym, ap, ◌∙◌}
+use Rattle.std.proofs.Common.{◌+◌, sym, ap, ◌∙◌}
 use Rattle.packed.specs.Packing.{with_digits, header_digits, edits_digits}
 use Rattle.packed.proofs.Writing.{with_append, length-header}
 use Rattle.packed.proofs.packs.put_sheet.Goals as goal

@@ -1,4 +1,4 @@
-use Rattle.std.proofs.Common.{◌≡◌, ℕ, suc, ◌+◌, ◌-◌, ◌<◌, ◌≤◌, sym, refl, ap, ◌∙◌, arith}
+use Rattle.std.proofs.Common.{◌≡◌, ℕ, suc, ◌+◌, ◌-◌, ◌<◌, sym, ap, ◌∙◌, arith}
 use Rattle.packed.specs.Sheets.{first_one}
 use Rattle.packed.proofs.Fields.{first_here, first_later, first_none}
 use Rattle.packed.proofs.sheets.first_one.Goals as goal

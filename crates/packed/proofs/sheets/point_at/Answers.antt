@@ -1,4 +1,3 @@
-use Rattle.std.proofs.Common.{refl}
 use Rattle.packed.specs.Sheets.{point_at}
 use Rattle.packed.proofs.Exits.{leaves}
 use Rattle.packed.proofs.sheets.point_at.Goals as goal

@@ -1,4 +1,4 @@
-use Rattle.std.proofs.Common.{ℕ, ◌+◌, ◌-◌, ◌*◌, ◌%◌, length, arith, le-ltb, lt-ltb}
+use Rattle.std.proofs.Common.{◌+◌, ◌*◌, length, le-ltb, lt-ltb}
 use Rattle.packed.specs.declared.faults.FieldFault.TheVariants.{Bits}
 use Rattle.packed.specs.Sheets.{end_of, fill_bits}
 use Rattle.packed.proofs.Exits.{leaves}

@@ -1,4 +1,4 @@
-use Rattle.std.proofs.Common.{arith, eq-eqb, ne_eqb}
+use Rattle.std.proofs.Common.{eq-eqb, ne_eqb}
 use Rattle.packed.specs.declared.faults.FieldFault.TheVariants.{Bits}
 use Rattle.packed.specs.Sheets.{header_of}
 use Rattle.packed.proofs.Exits.{leaves}

@@ -2,7 +2,7 @@
 use Rattle.std.proofs.Common.{ap, ◌∙◌}
 use lib.Ieee.{Float, of_bits, of_int}
 use Rattle.floats.specs.Arithmetic.{◌⊕◌, ◌⊖◌, ◌⊘◌}
-use Rattle.geomath.specs.Angles.{one, square}
+use Rattle.geomath.specs.Angles.{one}
 use Rattle.series.specs.Tables.{row_at}
 use Rattle.series.specs.Expansions.{A2m1f, table_a2}
 use Rattle.series.proofs.expansions._A2m1f.Goals as goal

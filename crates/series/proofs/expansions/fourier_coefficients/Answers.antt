@@ -1,8 +1,8 @@
 -- Each turn puts one more coefficient behind those that stand.
-use Rattle.std.proofs.Common.{◌≡◌, ◌+◌, ◌-◌, ◌/◌, List, ◌++◌, length, take, drop, set, sym, refl, ap, ◌∙◌, arith, lit≤, length-set}
+use Rattle.std.proofs.Common.{◌+◌, ◌-◌, ◌++◌, take, drop, set, refl, ap, ◌∙◌, arith, lit≤, length-set}
 use lib.Ieee.{Float}
 use Rattle.floats.specs.Arithmetic.{◌⊗◌, ◌⊘◌}
-use Rattle.series.specs.Expansions.{degree_of, scaled_row, coefficients}
+use Rattle.series.specs.Expansions.{degree_of, coefficients}
 use Rattle.series.proofs.Fourier.{written, written_all, scaled_row_is, left_over, passed}
 use Rattle.series.proofs.expansions.fourier_coefficients.Goals as goal
 

@@ -1,8 +1,8 @@
 -- Each turn takes the two coefficients before those done.
-use Rattle.std.proofs.Common.{◌≡◌, ◌-◌, ◌*◌, ◌/◌, length, drop, sym, ap, ◌∙◌}
+use Rattle.std.proofs.Common.{◌-◌, ◌*◌, ◌/◌, length, sym, ap, ◌∙◌}
 use lib.Ieee.{Float}
 use Rattle.geomath.specs.Angles.{zero}
-use Rattle.series.specs.Clenshaw.{Tail, clenshaw}
+use Rattle.series.specs.Clenshaw.{Tail}
 use Rattle.series.proofs.Recursion.{starts_even, starts_odd, turns, pair_before, pairs_all, pairs_but_one, taken_all}
 use Rattle.series.proofs.sums.recursion.Goals as goal
 use Rattle.series.proofs.sums.recursion.Goals.{then-terms-eq1, else-terms-eq1}
