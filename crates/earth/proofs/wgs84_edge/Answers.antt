@@ -16,4 +16,4 @@ edge_from r = record { s12 = r.s12; S12 = r.S12; evaluations = r.evaluations }
 pub returns : goal.returns
 unfolding edge_of edge_from
 returns c =
-    ap edge_from (c.-gen-inverse-r.ensures ∙ ap (λ (E : Ellipsoid). inverse series E polygon_area c.args.lat1 c.args.lon1 c.args.lat2 c.args.lon2) c.wgs84.ensures)
+    ap edge_from (c._gen_inverse-r.ensures ∙ ap (λ (E : Ellipsoid). inverse series E polygon_area c.args.lat1 c.args.lon1 c.args.lat2 c.args.lon2) c.wgs84.ensures)

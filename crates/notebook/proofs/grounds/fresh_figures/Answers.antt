@@ -16,7 +16,7 @@ loop-point-preserved g c =
     let t = c.loop-point.polygon.traverse in
     let blank : Point = record { lat = nan; lon = nan } in
     let p = get_or points i blank in
-    let told = c.in-ok-add-point.ensures in
+    let told = c.in_ok-add_point.ensures in
     let fed-on = told.traverse ∙ ap (λ s. offered (g.S.Surface.edges s) t p.lat p.lon) c.loop-point.invariant.0 ∙ offered-fed edge t p told.answer in (
       told.surface ∙ c.loop-point.invariant.0,
       told.winding ∙ c.loop-point.invariant.1,

@@ -7,4 +7,4 @@ use Rattle.vectors_inverse.proofs.judges.pair_agrees.Goals as goal
 pub returns-in-Ok : goal.returns-in-Ok
 returns-in-Ok c =
     let row = c.args.row.now in
-    c.writes.ensures ∙ ap (λ figures. writes figures row) c.figures-of.ensures ∙ ap (λ answer. writes_figures answer row) c.in-Ok.ensures.value
+    c.writes.ensures ∙ ap (λ figures. writes figures row) c.figures_of.ensures ∙ ap (λ answer. writes_figures answer row) c.in-Ok.ensures.value

@@ -7,11 +7,11 @@ use Rattle.vectors_inverse.specs.Outlines.{fed_words, offered_words}
 use Rattle.vectors_inverse.proofs.Fed.{fed_done, fed-none, fed_more, offered_first}
 use Rattle.vectors_inverse.proofs.outlines.feed.Goals as goal
 
-pub returns-then-is-empty : goal.returns-then-is-empty
-returns-then-is-empty c =
+pub returns-then-is_empty : goal.returns-then-is_empty
+returns-then-is_empty c =
     let edge = edge_of series c.args.polygon.now.surface.shape in
     let none : length (first_word c.loop.rest.now) ≡ 0 =
-    sym (ap length c.split-word.ensures.word) ∙ true-eqb (length c.split-word.result.0.now) 0 c.if-is-empty.ensures in
+    sym (ap length c.split_word.ensures.word) ∙ true-eqb (length c.split_word.result.0.now) 0 c.if-is_empty.ensures in
     record {
       traverse = sym (fed_done edge _ c.loop.rest.now c.loop.polygon.traverse none) ∙ c.loop.invariant.0;
       surface = c.loop.invariant.1;
@@ -25,14 +25,14 @@ loop-preserved c =
     let t = c.loop.polygon.traverse in
     let n = length c.args.text.now in
     let same-edge : edge_of series c.loop.polygon.surface.shape ≡ edge = ap (λ s. edge_of series s.shape) c.loop.invariant.1 in
-    let some_word : eqb (length (first_word rest)) 0 ≡ false = ap (λ w. eqb (length w) 0) (sym c.split-word.ensures.word) ∙ sym c.if-is-empty.ensures in
-    let lat = c.split-word.ensures.word in
-    let lon : c.split-word-in-loop.result.0.now ≡ first_word (after_word rest) = c.split-word-in-loop.ensures.word ∙ ap first_word c.split-word.ensures.rest in
-    let later : c.split-word-in-loop.result.1.now ≡ after_word (after_word rest) = c.split-word-in-loop.ensures.rest ∙ ap after_word c.split-word.ensures.rest in
+    let some_word : eqb (length (first_word rest)) 0 ≡ false = ap (λ w. eqb (length w) 0) (sym c.split_word.ensures.word) ∙ sym c.if-is_empty.ensures in
+    let lat = c.split_word.ensures.word in
+    let lon : c.split_word-in-loop.result.0.now ≡ first_word (after_word rest) = c.split_word-in-loop.ensures.word ∙ ap first_word c.split_word.ensures.rest in
+    let later : c.split_word-in-loop.result.1.now ≡ after_word (after_word rest) = c.split_word-in-loop.ensures.rest ∙ ap after_word c.split_word.ensures.rest in
     let offered : c.offer.new.polygon.traverse ≡ offered_first edge rest t =
     c.offer.ensures.traverse
-    ∙ ap (λ e. offered_words e t c.split-word.result.0.now c.split-word-in-loop.result.0.now) same-edge
-    ∙ ap (λ w. offered_words edge t w c.split-word-in-loop.result.0.now) lat
+    ∙ ap (λ e. offered_words e t c.split_word.result.0.now c.split_word-in-loop.result.0.now) same-edge
+    ∙ ap (λ w. offered_words edge t w c.split_word-in-loop.result.0.now) lat
     ∙ ap (λ w. offered_words edge t (first_word rest) w) lon in (
       ap (λ w. fed_words edge (n - (c.loop.counter + 1)) w c.offer.new.polygon.traverse) later
           ∙ ap (fed_words edge (n - (c.loop.counter + 1)) (after_word (after_word rest))) offered
