@@ -20,7 +20,7 @@ use surface::{Plate, Refusal, Surface};
 
 // What was made outside the edits, or its refusal as a fault of the header.
 fn in_header<T>(made: Result<T, Refusal>) -> Result<T, SheetFault>
-    ensures { result ≡ result_map_both (λ value. value) (λ refusal. Off 0 0 refusal) IfOk }
+    ensures { result ≡ result_map_both (λ value. value) (λ refusal. Off 0 0 refusal) made }
 {
     match made {
         Ok(value) => Ok(value),

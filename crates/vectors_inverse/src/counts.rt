@@ -28,7 +28,7 @@ fn count(tally: Tally, agrees: bool) -> Tally
 
 // How many lines of a text the judge meets.
 pub fn count_lines<J: Judge>(judge: &J, text: &str) -> Tally
-    ensures { result ≡ judged_of (meets judge.now) text.now }
+    ensures { result ≡ judged_of (J.meets judge.now) text.now }
 {
     let mut tally = Tally {
         cases: 0,

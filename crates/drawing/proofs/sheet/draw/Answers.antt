@@ -19,99 +19,99 @@ use Rattle.drawing.proofs.Sheets.{mapped_ok, mapped_err}
 use Rattle.drawing.proofs.Heads.{head_fault, head_refused, head_on, fresh_on, ellipsoid_refused, ellipsoid_edges, ellipsoid-whole, plate_refused, plate_edges, plate_whole}
 use Rattle.drawing.proofs.sheet.draw.Goals as goal
 
-pub returns-in-err-header : goal.returns-in-err-header
-returns-in-err-header c =
-    let fault = c.in-err-header.field-0.0 in
-    let read : Err fault ≡ in_edit 0 (header_of c.args.bytes.now) = c.in-err-header.ensures ∙ ap (in_edit 0) c.read-header.ensures.header in
+pub returns-in_err-header : goal.returns-in_err-header
+returns-in_err-header c =
+    let fault = c.in_err-header.field-0.0 in
+    let read : Err fault ≡ in_edit 0 (header_of c.args.bytes.now) = c.in_err-header.ensures ∙ ap (in_edit 0) c.read_header.ensures.header in
     let is = head_fault c.args.stations.now c.args.edits.now c.args.bytes.now fault read in
-    let q = leaves c.from-residual.result (Field fault) c.from-residual.ensures.1 in
+    let q = leaves c.from_residual.result (Field fault) c.from_residual.ensures.1 in
     record {
       answer = q ∙ sym (ap (λ (s : Sheet). s.answer) is);
       stations = sym (ap (λ (s : Sheet). s.stations) is);
       edits = sym (ap (λ (s : Sheet). s.edits) is);
-      fresh = λ header found. IfOk-from_err c.from-residual.result _ c.from-residual.ensures.0;
+      fresh = λ header found. IfOk-from_err c.from_residual.result _ c.from_residual.ensures.0;
       listed = list_law;
       surfaces = stand;
       rule = whole_rule;
     }
 
-pub returns-in-err-ellipsoid : goal.returns-in-err-ellipsoid
-returns-in-err-ellipsoid c =
+pub returns-in_err-ellipsoid : goal.returns-in_err-ellipsoid
+returns-in_err-ellipsoid c =
     let stations = c.args.stations.now in
     let edits = c.args.edits.now in
     let bytes = c.args.bytes.now in
-    let header = c.in-ok-header.header in
-    let read : Ok header ≡ in_edit 0 (header_of bytes) = c.in-ok-header.ensures ∙ ap (in_edit 0) c.read-header.ensures.header in
-    let p = mapped_err (λ refusal. Outline 0 0 refusal) c.wgs84.result c.in-err-ellipsoid.field-0.0 c.in-err-ellipsoid.ensures in
+    let header = c.in_ok-header.header in
+    let read : Ok header ≡ in_edit 0 (header_of bytes) = c.in_ok-header.ensures ∙ ap (in_edit 0) c.read_header.ensures.header in
+    let p = mapped_err (λ refusal. Outline 0 0 refusal) c.wgs84.result c.in_err-ellipsoid.field-0.0 c.in_err-ellipsoid.ensures in
     let refused : shape_refusal series wgs84_a wgs84_f ≡ Some p.0 = MatchResult-at_err _ (λ e. shape_refusal series wgs84_a wgs84_f ≡ Some e) p.0 p.1 c.wgs84.ensures in
     let is = head_refused stations edits bytes header read p.0 (ellipsoid_refused header.surface c.in-Wgs84.is (Some p.0) refused) in
-    let q = leaves c.from-residual-in-err-ellipsoid.result c.in-err-ellipsoid.field-0.0 c.from-residual-in-err-ellipsoid.ensures.1 in
+    let q = leaves c.from_residual-in_err-ellipsoid.result c.in_err-ellipsoid.field-0.0 c.from_residual-in_err-ellipsoid.ensures.1 in
     record {
       answer = q ∙ ap Err p.2 ∙ sym (ap (λ (s : Sheet). s.answer) is);
       stations = sym (ap (λ (s : Sheet). s.stations) is);
       edits = sym (ap (λ (s : Sheet). s.edits) is);
-      fresh = λ k found. IfOk-from_err c.from-residual-in-err-ellipsoid.result _ c.from-residual-in-err-ellipsoid.ensures.0;
+      fresh = λ k found. IfOk-from_err c.from_residual-in_err-ellipsoid.result _ c.from_residual-in_err-ellipsoid.ensures.0;
       listed = list_law;
       surfaces = stand;
       rule = whole_rule;
     }
 
-pub returns-in-err-plate : goal.returns-in-err-plate
-returns-in-err-plate c =
+pub returns-in_err-plate : goal.returns-in_err-plate
+returns-in_err-plate c =
     let stations = c.args.stations.now in
     let edits = c.args.edits.now in
     let bytes = c.args.bytes.now in
-    let header = c.in-ok-header.header in
-    let read : Ok header ≡ in_edit 0 (header_of bytes) = c.in-ok-header.ensures ∙ ap (in_edit 0) c.read-header.ensures.header in
-    let p = mapped_err (λ refusal. Outline 0 0 refusal) c.new.result c.in-err-plate.field-0.0 c.in-err-plate.ensures in
+    let header = c.in_ok-header.header in
+    let read : Ok header ≡ in_edit 0 (header_of bytes) = c.in_ok-header.ensures ∙ ap (in_edit 0) c.read_header.ensures.header in
+    let p = mapped_err (λ refusal. Outline 0 0 refusal) c.new.result c.in_err-plate.field-0.0 c.in_err-plate.ensures in
     let refused : plate_refusal one ≡ Some p.0 = MatchResult-at_err _ (λ e. plate_refusal one ≡ Some e) p.0 p.1 c.new.ensures in
     let is = head_refused stations edits bytes header read p.0 (plate_refused header.surface c.in-Plate.is (Some p.0) refused) in
-    let q = leaves c.from-residual-in-err-plate.result c.in-err-plate.field-0.0 c.from-residual-in-err-plate.ensures.1 in
+    let q = leaves c.from_residual-in_err-plate.result c.in_err-plate.field-0.0 c.from_residual-in_err-plate.ensures.1 in
     record {
       answer = q ∙ ap Err p.2 ∙ sym (ap (λ (s : Sheet). s.answer) is);
       stations = sym (ap (λ (s : Sheet). s.stations) is);
       edits = sym (ap (λ (s : Sheet). s.edits) is);
-      fresh = λ k found. IfOk-from_err c.from-residual-in-err-plate.result _ c.from-residual-in-err-plate.ensures.0;
+      fresh = λ k found. IfOk-from_err c.from_residual-in_err-plate.result _ c.from_residual-in_err-plate.ensures.0;
       listed = list_law;
       surfaces = stand;
       rule = whole_rule;
     }
 
-pub returns-in-ok-ellipsoid : goal.returns-in-ok-ellipsoid
-returns-in-ok-ellipsoid c =
+pub returns-in_ok-ellipsoid : goal.returns-in_ok-ellipsoid
+returns-in_ok-ellipsoid c =
     let stations = c.args.stations.now in
     let edits = c.args.edits.now in
     let bytes = c.args.bytes.now in
-    let header = c.in-ok-header.header in
-    let read : Ok header ≡ in_edit 0 (header_of bytes) = c.in-ok-header.ensures ∙ ap (in_edit 0) c.read-header.ensures.header in
-    let ellipsoid = c.in-ok-ellipsoid.ellipsoid in
-    let is = mapped_ok (λ refusal. Outline 0 0 refusal) c.wgs84.result ellipsoid c.in-ok-ellipsoid.ensures in
+    let header = c.in_ok-header.header in
+    let read : Ok header ≡ in_edit 0 (header_of bytes) = c.in_ok-header.ensures ∙ ap (in_edit 0) c.read_header.ensures.header in
+    let ellipsoid = c.in_ok-ellipsoid.ellipsoid in
+    let is = mapped_ok (λ refusal. Outline 0 0 refusal) c.wgs84.result ellipsoid c.in_ok-ellipsoid.ensures in
     let made = MatchResult-at_ok _ _ ellipsoid is c.wgs84.ensures in
-    let edge = edge_of series c.in-ok-ellipsoid.ellipsoid.shape in
-    let whole = whole_of c.in-ok-ellipsoid.ellipsoid.shape in
-    let edge-is = ellipsoid_edges header.surface c.in-Wgs84.is c.in-ok-ellipsoid.ellipsoid.shape made.2 in
-    let whole_is = ellipsoid-whole header.surface c.in-Wgs84.is c.in-ok-ellipsoid.ellipsoid.shape made.2 in
+    let edge = edge_of series c.in_ok-ellipsoid.ellipsoid.shape in
+    let whole = whole_of c.in_ok-ellipsoid.ellipsoid.shape in
+    let edge-is = ellipsoid_edges header.surface c.in-Wgs84.is c.in_ok-ellipsoid.ellipsoid.shape made.2 in
+    let whole_is = ellipsoid-whole header.surface c.in-Wgs84.is c.in_ok-ellipsoid.ellipsoid.shape made.2 in
     let granted = ellipsoid_refused header.surface c.in-Wgs84.is None made.0 in
     let sheet = head_on stations edits bytes header read edge whole granted edge-is whole_is in
     record {
-      answer = c.draw-on.ensures.answer ∙ ap (λ (s : Sheet). s.answer) sheet;
-      stations = c.draw-on.ensures.stations ∙ ap (λ (s : Sheet). s.stations) sheet;
-      edits = c.draw-on.ensures.edits ∙ ap (λ (s : Sheet). s.edits) sheet;
-      fresh = fresh_on stations edits bytes header read edge whole c.draw-on.result edge-is whole_is c.draw-on.ensures.fresh;
+      answer = c.draw_on.ensures.answer ∙ ap (λ (s : Sheet). s.answer) sheet;
+      stations = c.draw_on.ensures.stations ∙ ap (λ (s : Sheet). s.stations) sheet;
+      edits = c.draw_on.ensures.edits ∙ ap (λ (s : Sheet). s.edits) sheet;
+      fresh = fresh_on stations edits bytes header read edge whole c.draw_on.result edge-is whole_is c.draw_on.ensures.fresh;
       listed = list_law;
       surfaces = stand;
       rule = whole_rule;
     }
 
-pub returns-in-ok-plate : goal.returns-in-ok-plate
-returns-in-ok-plate c =
+pub returns-in_ok-plate : goal.returns-in_ok-plate
+returns-in_ok-plate c =
     let stations = c.args.stations.now in
     let edits = c.args.edits.now in
     let bytes = c.args.bytes.now in
-    let header = c.in-ok-header.header in
-    let read : Ok header ≡ in_edit 0 (header_of bytes) = c.in-ok-header.ensures ∙ ap (in_edit 0) c.read-header.ensures.header in
-    let plate = c.in-ok-plate.plate in
-    let is = mapped_ok (λ refusal. Outline 0 0 refusal) c.new.result plate c.in-ok-plate.ensures in
+    let header = c.in_ok-header.header in
+    let read : Ok header ≡ in_edit 0 (header_of bytes) = c.in_ok-header.ensures ∙ ap (in_edit 0) c.read_header.ensures.header in
+    let plate = c.in_ok-plate.plate in
+    let is = mapped_ok (λ refusal. Outline 0 0 refusal) c.new.result plate c.in_ok-plate.ensures in
     let made = MatchResult-at_ok (λ x. (plate_refusal one ≡ None) × (x.scale ≡ one)) _ plate is c.new.ensures in
     let edge = plate_edge plate.scale in
     let whole = plate_area plate.scale in
@@ -120,10 +120,10 @@ returns-in-ok-plate c =
     let granted = plate_refused header.surface c.in-Plate.is None made.0 in
     let sheet = head_on stations edits bytes header read edge whole granted edge-is whole_is in
     record {
-      answer = c.draw-on-in-Plate.ensures.answer ∙ ap (λ (s : Sheet). s.answer) sheet;
-      stations = c.draw-on-in-Plate.ensures.stations ∙ ap (λ (s : Sheet). s.stations) sheet;
-      edits = c.draw-on-in-Plate.ensures.edits ∙ ap (λ (s : Sheet). s.edits) sheet;
-      fresh = fresh_on stations edits bytes header read edge whole c.draw-on-in-Plate.result edge-is whole_is c.draw-on-in-Plate.ensures.fresh;
+      answer = c.draw_on-in-Plate.ensures.answer ∙ ap (λ (s : Sheet). s.answer) sheet;
+      stations = c.draw_on-in-Plate.ensures.stations ∙ ap (λ (s : Sheet). s.stations) sheet;
+      edits = c.draw_on-in-Plate.ensures.edits ∙ ap (λ (s : Sheet). s.edits) sheet;
+      fresh = fresh_on stations edits bytes header read edge whole c.draw_on-in-Plate.result edge-is whole_is c.draw_on-in-Plate.ensures.fresh;
       listed = list_law;
       surfaces = stand;
       rule = whole_rule;

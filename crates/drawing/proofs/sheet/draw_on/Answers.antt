@@ -15,32 +15,32 @@ use Rattle.drawing.specs.Sketches.{Sheet, sheet_on}
 use Rattle.drawing.proofs.Sheets.{mapped_ok, mapped_err, sheet_refused, sheet_stations, sheet_edits, sheet_fault, measured_always, sheet_fresh, sheet_done}
 use Rattle.drawing.proofs.sheet.draw_on.Goals as goal
 
-pub returns-in-err-outline : goal.returns-in-err-outline
-returns-in-err-outline g c =
+pub returns-in_err-outline : goal.returns-in_err-outline
+returns-in_err-outline g c =
     let edge = g.S.Surface.edges c.args.surface in
     let whole = g.S.Surface.whole c.args.surface in
-    let p = mapped_err (λ refusal. Outline 0 0 refusal) c.open.result c.in-err-outline.field-0.0 c.in-err-outline.ensures in
+    let p = mapped_err (λ refusal. Outline 0 0 refusal) c.open.result c.in_err-outline.field-0.0 c.in_err-outline.ensures in
     let refused : open_refusal (length c.args.stations.now) (length c.args.edits.now) ≡ Some p.0 = sym c.open.ensures.answer ∙ ap result_err p.1 in
     let is = sheet_refused c.args.stations.now c.args.edits.now edge whole c.args.bytes.now c.args.header p.0 refused in
-    let q = leaves c.from-residual.result c.in-err-outline.field-0.0 c.from-residual.ensures.1 in
+    let q = leaves c.from_residual.result c.in_err-outline.field-0.0 c.from_residual.ensures.1 in
     record {
       answer = q ∙ ap Err p.2 ∙ sym (ap (λ (s : Sheet). s.answer) is);
       stations = sym (ap (λ (s : Sheet). s.stations) is);
       edits = sym (ap (λ (s : Sheet). s.edits) is);
-      fresh = IfOk-from_err c.from-residual.result _ c.from-residual.ensures.0;
+      fresh = IfOk-from_err c.from_residual.result _ c.from_residual.ensures.0;
     }
 
-pub returns-in-err-spent : goal.returns-in-err-spent
-returns-in-err-spent g c =
+pub returns-in_err-spent : goal.returns-in_err-spent
+returns-in_err-spent g c =
     let edge = g.S.Surface.edges c.args.surface in
     let whole = g.S.Surface.whole c.args.surface in
     let bytes = c.args.bytes.now in
     let header = c.args.header in
     let stations = c.args.stations.now in
     let edits = c.args.edits.now in
-    let outline = c.in-ok-outline.outline in
+    let outline = c.in_ok-outline.outline in
     let new = opened header.winding (length stations) (length edits) in
-    let open_is = mapped_ok (λ refusal. Outline 0 0 refusal) c.open.result outline c.in-ok-outline.ensures in
+    let open_is = mapped_ok (λ refusal. Outline 0 0 refusal) c.open.result outline c.in_ok-outline.ensures in
     let granted : open_refusal (length stations) (length edits) ≡ None = sym c.open.ensures.answer ∙ ap result_err open_is in
     let surface-is : outline.surface ≡ c.args.surface = IfOk-at_ok (λ o. o.surface ≡ c.args.surface) open_is c.open.ensures.surface in
     let frame_is : outline.frame ≡ new = IfOk-at_ok (λ o. o.frame ≡ new) open_is c.open.ensures.frame in
@@ -48,28 +48,28 @@ returns-in-err-spent g c =
     let strokes-is : edits_drawn (g.S.Surface.edges outline.surface) (g.S.Surface.whole outline.surface) bytes header.edits 0 24 free outline.frame stations edits ≡ strokes =
     ap (λ s. edits_drawn (g.S.Surface.edges s) (g.S.Surface.whole s) bytes header.edits 0 24 free outline.frame stations edits) surface-is
     ∙ ap (λ (f : Frame). edits_drawn edge whole bytes header.edits 0 24 free f stations edits) frame_is in
-    let says = c.in-err-spent.ensures in
-    let fault = c.in-err-spent.field-0.0 in
+    let says = c.in_err-spent.ensures in
+    let fault = c.in_err-spent.field-0.0 in
     let faulty : strokes.answer ≡ Err fault = sym (says.answer ∙ ap (λ (s : Strokes). s.answer) strokes-is) in
-    let q = leaves c.from-residual-in-err-spent.result fault c.from-residual-in-err-spent.ensures.1 in
+    let q = leaves c.from_residual-in_err-spent.result fault c.from_residual-in_err-spent.ensures.1 in
     record {
       answer = q ∙ sym (sheet_fault stations edits edge whole bytes header granted fault faulty);
       stations = says.stations ∙ ap (λ (s : Strokes). s.stations) strokes-is ∙ sheet_stations stations edits edge whole bytes header granted;
       edits = says.edits ∙ ap (λ (s : Strokes). s.edits) strokes-is ∙ sheet_edits stations edits edge whole bytes header granted;
-      fresh = IfOk-from_err c.from-residual-in-err-spent.result _ c.from-residual-in-err-spent.ensures.0;
+      fresh = IfOk-from_err c.from_residual-in_err-spent.result _ c.from_residual-in_err-spent.ensures.0;
     }
 
-pub returns-in-err-closing : goal.returns-in-err-closing
-returns-in-err-closing g c =
+pub returns-in_err-closing : goal.returns-in_err-closing
+returns-in_err-closing g c =
     let edge = g.S.Surface.edges c.args.surface in
     let whole = g.S.Surface.whole c.args.surface in
     let bytes = c.args.bytes.now in
     let header = c.args.header in
     let stations = c.args.stations.now in
     let edits = c.args.edits.now in
-    let outline = c.in-ok-outline.outline in
+    let outline = c.in_ok-outline.outline in
     let new = opened header.winding (length stations) (length edits) in
-    let open_is = mapped_ok (λ refusal. Outline 0 0 refusal) c.open.result outline c.in-ok-outline.ensures in
+    let open_is = mapped_ok (λ refusal. Outline 0 0 refusal) c.open.result outline c.in_ok-outline.ensures in
     let granted : open_refusal (length stations) (length edits) ≡ None = sym c.open.ensures.answer ∙ ap result_err open_is in
     let surface-is : outline.surface ≡ c.args.surface = IfOk-at_ok (λ o. o.surface ≡ c.args.surface) open_is c.open.ensures.surface in
     let frame_is : outline.frame ≡ new = IfOk-at_ok (λ o. o.frame ≡ new) open_is c.open.ensures.frame in
@@ -77,26 +77,26 @@ returns-in-err-closing g c =
     let strokes-is : edits_drawn (g.S.Surface.edges outline.surface) (g.S.Surface.whole outline.surface) bytes header.edits 0 24 free outline.frame stations edits ≡ strokes =
     ap (λ s. edits_drawn (g.S.Surface.edges s) (g.S.Surface.whole s) bytes header.edits 0 24 free outline.frame stations edits) surface-is
     ∙ ap (λ (f : Frame). edits_drawn edge whole bytes header.edits 0 24 free f stations edits) frame_is in
-    let says = c.in-ok-spent.ensures in
-    let spent = c.in-ok-spent.spent in
-    let drawn-row : c.draw-edits.new.stations ≡ strokes.stations = says.stations ∙ ap (λ (s : Strokes). s.stations) strokes-is in
-    let drawn-notes : c.draw-edits.new.edits ≡ strokes.edits = says.edits ∙ ap (λ (s : Strokes). s.edits) strokes-is in
-    let drawn-frame : c.draw-edits.new.outline.frame ≡ strokes.frame = says.frame ∙ ap (λ (s : Strokes). s.frame) strokes-is in
-    let drawn-surface : c.draw-edits.new.outline.surface ≡ c.args.surface = says.surface ∙ surface-is in
+    let says = c.in_ok-spent.ensures in
+    let spent = c.in_ok-spent.spent in
+    let drawn-row : c.draw_edits.new.stations ≡ strokes.stations = says.stations ∙ ap (λ (s : Strokes). s.stations) strokes-is in
+    let drawn-notes : c.draw_edits.new.edits ≡ strokes.edits = says.edits ∙ ap (λ (s : Strokes). s.edits) strokes-is in
+    let drawn-frame : c.draw_edits.new.outline.frame ≡ strokes.frame = says.frame ∙ ap (λ (s : Strokes). s.frame) strokes-is in
+    let drawn-surface : c.draw_edits.new.outline.surface ≡ c.args.surface = says.surface ∙ surface-is in
     let measured : c.measure.result ≡ measure_of edge whole strokes.frame strokes.stations strokes.edits header.signed =
     c.measure.ensures.answer
-    ∙ ap (λ s. measure_of (g.S.Surface.edges s) (g.S.Surface.whole s) c.draw-edits.new.outline.frame c.draw-edits.new.stations c.draw-edits.new.edits header.signed) drawn-surface
-    ∙ ap (λ (f : Frame). measure_of edge whole f c.draw-edits.new.stations c.draw-edits.new.edits header.signed) drawn-frame
-    ∙ ap (λ row. measure_of edge whole strokes.frame row c.draw-edits.new.edits header.signed) drawn-row
+    ∙ ap (λ s. measure_of (g.S.Surface.edges s) (g.S.Surface.whole s) c.draw_edits.new.outline.frame c.draw_edits.new.stations c.draw_edits.new.edits header.signed) drawn-surface
+    ∙ ap (λ (f : Frame). measure_of edge whole f c.draw_edits.new.stations c.draw_edits.new.edits header.signed) drawn-frame
+    ∙ ap (λ row. measure_of edge whole strokes.frame row c.draw_edits.new.edits header.signed) drawn-row
     ∙ ap (λ notes. measure_of edge whole strokes.frame strokes.stations notes header.signed) drawn-notes in
-    let p = mapped_err (λ refusal. Outline 0 0 refusal) c.measure.result c.in-err-closing.field-0.0 c.in-err-closing.ensures in
+    let p = mapped_err (λ refusal. Outline 0 0 refusal) c.measure.result c.in_err-closing.field-0.0 c.in_err-closing.ensures in
     absurd (measured_always stations edits edge whole bytes header granted p.0 (sym measured ∙ p.1))
 
 pub plus-requires : goal.plus-requires
 plus-requires g c =
-    let says = c.in-ok-spent.ensures in
-    let closing = c.in-ok-closing.closing in
-    let is = mapped_ok (λ refusal. Outline 0 0 refusal) c.measure.result closing c.in-ok-closing.ensures in
+    let says = c.in_ok-spent.ensures in
+    let closing = c.in_ok-closing.closing in
+    let is = mapped_ok (λ refusal. Outline 0 0 refusal) c.measure.result closing c.in_ok-closing.ensures in
     let one = IfOk-at_ok (λ m. (m.cost.edges ≡ 1) × (m.cost.evaluations ≤ 83)) is c.measure.ensures.edges in
     record { edges = omega (arith, says.few.0, one.0); evaluations = omega (arith, says.few.1, one.1) }
 
@@ -108,9 +108,9 @@ returns g c =
     let header = c.args.header in
     let stations = c.args.stations.now in
     let edits = c.args.edits.now in
-    let outline = c.in-ok-outline.outline in
+    let outline = c.in_ok-outline.outline in
     let new = opened header.winding (length stations) (length edits) in
-    let open_is = mapped_ok (λ refusal. Outline 0 0 refusal) c.open.result outline c.in-ok-outline.ensures in
+    let open_is = mapped_ok (λ refusal. Outline 0 0 refusal) c.open.result outline c.in_ok-outline.ensures in
     let granted : open_refusal (length stations) (length edits) ≡ None = sym c.open.ensures.answer ∙ ap result_err open_is in
     let surface-is : outline.surface ≡ c.args.surface = IfOk-at_ok (λ o. o.surface ≡ c.args.surface) open_is c.open.ensures.surface in
     let frame_is : outline.frame ≡ new = IfOk-at_ok (λ o. o.frame ≡ new) open_is c.open.ensures.frame in
@@ -118,20 +118,20 @@ returns g c =
     let strokes-is : edits_drawn (g.S.Surface.edges outline.surface) (g.S.Surface.whole outline.surface) bytes header.edits 0 24 free outline.frame stations edits ≡ strokes =
     ap (λ s. edits_drawn (g.S.Surface.edges s) (g.S.Surface.whole s) bytes header.edits 0 24 free outline.frame stations edits) surface-is
     ∙ ap (λ (f : Frame). edits_drawn edge whole bytes header.edits 0 24 free f stations edits) frame_is in
-    let says = c.in-ok-spent.ensures in
-    let spent = c.in-ok-spent.spent in
-    let drawn-row : c.draw-edits.new.stations ≡ strokes.stations = says.stations ∙ ap (λ (s : Strokes). s.stations) strokes-is in
-    let drawn-notes : c.draw-edits.new.edits ≡ strokes.edits = says.edits ∙ ap (λ (s : Strokes). s.edits) strokes-is in
-    let drawn-frame : c.draw-edits.new.outline.frame ≡ strokes.frame = says.frame ∙ ap (λ (s : Strokes). s.frame) strokes-is in
-    let drawn-surface : c.draw-edits.new.outline.surface ≡ c.args.surface = says.surface ∙ surface-is in
+    let says = c.in_ok-spent.ensures in
+    let spent = c.in_ok-spent.spent in
+    let drawn-row : c.draw_edits.new.stations ≡ strokes.stations = says.stations ∙ ap (λ (s : Strokes). s.stations) strokes-is in
+    let drawn-notes : c.draw_edits.new.edits ≡ strokes.edits = says.edits ∙ ap (λ (s : Strokes). s.edits) strokes-is in
+    let drawn-frame : c.draw_edits.new.outline.frame ≡ strokes.frame = says.frame ∙ ap (λ (s : Strokes). s.frame) strokes-is in
+    let drawn-surface : c.draw_edits.new.outline.surface ≡ c.args.surface = says.surface ∙ surface-is in
     let measured : c.measure.result ≡ measure_of edge whole strokes.frame strokes.stations strokes.edits header.signed =
     c.measure.ensures.answer
-    ∙ ap (λ s. measure_of (g.S.Surface.edges s) (g.S.Surface.whole s) c.draw-edits.new.outline.frame c.draw-edits.new.stations c.draw-edits.new.edits header.signed) drawn-surface
-    ∙ ap (λ (f : Frame). measure_of edge whole f c.draw-edits.new.stations c.draw-edits.new.edits header.signed) drawn-frame
-    ∙ ap (λ row. measure_of edge whole strokes.frame row c.draw-edits.new.edits header.signed) drawn-row
+    ∙ ap (λ s. measure_of (g.S.Surface.edges s) (g.S.Surface.whole s) c.draw_edits.new.outline.frame c.draw_edits.new.stations c.draw_edits.new.edits header.signed) drawn-surface
+    ∙ ap (λ (f : Frame). measure_of edge whole f c.draw_edits.new.stations c.draw_edits.new.edits header.signed) drawn-frame
+    ∙ ap (λ row. measure_of edge whole strokes.frame row c.draw_edits.new.edits header.signed) drawn-row
     ∙ ap (λ notes. measure_of edge whole strokes.frame strokes.stations notes header.signed) drawn-notes in
-    let closing = c.in-ok-closing.closing in
-    let is = mapped_ok (λ refusal. Outline 0 0 refusal) c.measure.result closing c.in-ok-closing.ensures in
+    let closing = c.in_ok-closing.closing in
+    let is = mapped_ok (λ refusal. Outline 0 0 refusal) c.measure.result closing c.in_ok-closing.ensures in
     let found : measure_of edge whole strokes.frame strokes.stations strokes.edits header.signed ≡ Ok closing = sym measured ∙ is in
     let granted-edits : strokes.answer ≡ Ok spent = sym (says.answer ∙ ap (λ (s : Strokes). s.answer) strokes-is) in
     record {

@@ -14,8 +14,8 @@ use Rattle.drawing.specs.Strokes.{Stroke, Strokes, edit_drawn, edits_drawn}
 use Rattle.drawing.proofs.Drawn.{same_stroke, edits_more, edits_fault, edits_end}
 use Rattle.drawing.proofs.strokes.draw_edits.Goals as goal
 
-pub returns-in-err-spent : goal.returns-in-err-spent
-returns-in-err-spent g c =
+pub returns-in_err-spent : goal.returns-in_err-spent
+returns-in_err-spent g c =
     let surface = c.args.outline.now.surface in
     let edge = g.S.Surface.edges surface in
     let whole = g.S.Surface.whole surface in
@@ -24,23 +24,23 @@ returns-in-err-spent g c =
     let f = c.loop-drawn.outline.frame in
     let stations = c.loop-drawn.stations in
     let edits = c.loop-drawn.edits in
-    let fault = c.in-err-spent.field-0.0 in
-    let says = c.in-err-spent.ensures in
-    let stroke : Stroke = record { answer = Err fault; frame = c.draw-edit.new.outline.frame; stations = c.draw-edit.new.stations; edits = c.draw-edit.new.edits } in
+    let fault = c.in_err-spent.field-0.0 in
+    let says = c.in_err-spent.ensures in
+    let stroke : Stroke = record { answer = Err fault; frame = c.draw_edit.new.outline.frame; stations = c.draw_edit.new.stations; edits = c.draw_edit.new.edits } in
     let here = c.loop-drawn.outline.surface in
     let drawn : stroke ≡ edit_drawn (g.S.Surface.edges here) (g.S.Surface.whole here) bytes (i + 1) c.loop-drawn.at f stations edits =
     same_stroke stroke (edit_drawn (g.S.Surface.edges here) (g.S.Surface.whole here) bytes (i + 1) c.loop-drawn.at f stations edits) says.answer says.frame says.stations says.edits in
     let is : stroke ≡ edit_drawn edge whole bytes (i + 1) c.loop-drawn.at f stations edits =
     drawn ∙ ap (λ s. edit_drawn (g.S.Surface.edges s) (g.S.Surface.whole s) bytes (i + 1) c.loop-drawn.at f stations edits) c.loop-drawn.invariant.0 in
     let all = sym c.loop-drawn.invariant.3 ∙ edits_fault edge whole bytes c.args.count i c.loop-drawn.at c.loop-drawn.total f stations edits c.loop-drawn-test.true stroke is fault refl in
-    let q = leaves c.from-residual.result fault c.from-residual.ensures.1 in
+    let q = leaves c.from_residual.result fault c.from_residual.ensures.1 in
     record {
       answer = q ∙ sym (ap (λ (s : Strokes). s.answer) all);
       frame = sym (ap (λ (s : Strokes). s.frame) all);
       stations = sym (ap (λ (s : Strokes). s.stations) all);
       edits = sym (ap (λ (s : Strokes). s.edits) all);
       surface = says.surface ∙ c.loop-drawn.invariant.0;
-      few = IfOk-from_err c.from-residual.result _ c.from-residual.ensures.0;
+      few = IfOk-from_err c.from_residual.result _ c.from_residual.ensures.0;
     }
 
 pub loop-drawn-preserved : goal.loop-drawn-preserved
@@ -53,10 +53,10 @@ loop-drawn-preserved g c =
     let f = c.loop-drawn.outline.frame in
     let stations = c.loop-drawn.stations in
     let edits = c.loop-drawn.edits in
-    let spent = c.in-ok-spent.spent in
-    let end = c.in-ok-spent.end in
-    let says = c.in-ok-spent.ensures in
-    let stroke : Stroke = record { answer = Ok (spent, end); frame = c.draw-edit.new.outline.frame; stations = c.draw-edit.new.stations; edits = c.draw-edit.new.edits } in
+    let spent = c.in_ok-spent.spent in
+    let end = c.in_ok-spent.end in
+    let says = c.in_ok-spent.ensures in
+    let stroke : Stroke = record { answer = Ok (spent, end); frame = c.draw_edit.new.outline.frame; stations = c.draw_edit.new.stations; edits = c.draw_edit.new.edits } in
     let here = c.loop-drawn.outline.surface in
     let drawn : stroke ≡ edit_drawn (g.S.Surface.edges here) (g.S.Surface.whole here) bytes (i + 1) c.loop-drawn.at f stations edits =
     same_stroke stroke (edit_drawn (g.S.Surface.edges here) (g.S.Surface.whole here) bytes (i + 1) c.loop-drawn.at f stations edits) says.answer says.frame says.stations says.edits in
@@ -70,25 +70,25 @@ loop-drawn-preserved g c =
       ap (λ (x : Cost). edits_drawn edge whole bytes (c.args.count - (i + 1)) (i + 1) end x stroke.frame stroke.stations stroke.edits) total ∙ sym more ∙ c.loop-drawn.invariant.3,
     )
 
-pub returns-in-err-in-edit : goal.returns-in-err-in-edit
-returns-in-err-in-edit g c =
+pub returns-in_err-in_edit : goal.returns-in_err-in_edit
+returns-in_err-in_edit g c =
     let surface = c.args.outline.now.surface in
     let edge = g.S.Surface.edges surface in
     let whole = g.S.Surface.whole surface in
     let bytes = c.args.bytes.now in
     let i = c.loop-drawn.drawn in
     let done : i ≡ c.args.count = omega (arith, c.loop-drawn-test.false, c.loop-drawn.auto.drawn-end) in
-    let fault = c.in-err-in-edit.field-0.0 in
-    let read : Err fault ≡ in_edit c.args.count (end_of bytes c.loop-drawn.at) = c.in-err-in-edit.ensures ∙ ap (in_edit c.args.count) c.read-end.ensures in
+    let fault = c.in_err-in_edit.field-0.0 in
+    let read : Err fault ≡ in_edit c.args.count (end_of bytes c.loop-drawn.at) = c.in_err-in_edit.ensures ∙ ap (in_edit c.args.count) c.read_end.ensures in
     let all = sym c.loop-drawn.invariant.3 ∙ edits_end edge whole bytes c.args.count i c.loop-drawn.at c.loop-drawn.total c.loop-drawn.outline.frame c.loop-drawn.stations c.loop-drawn.edits done in
-    let q = leaves c.from-residual-in-err-in-edit.result (Field fault) c.from-residual-in-err-in-edit.ensures.1 in
+    let q = leaves c.from_residual-in_err-in_edit.result (Field fault) c.from_residual-in_err-in_edit.ensures.1 in
     record {
       answer = q ∙ ap (result_map_both (λ (u : Unit {0}). c.loop-drawn.total) Field) read ∙ sym (ap (λ (s : Strokes). s.answer) all);
       frame = sym (ap (λ (s : Strokes). s.frame) all);
       stations = sym (ap (λ (s : Strokes). s.stations) all);
       edits = sym (ap (λ (s : Strokes). s.edits) all);
       surface = c.loop-drawn.invariant.0;
-      few = IfOk-from_err c.from-residual-in-err-in-edit.result _ c.from-residual-in-err-in-edit.ensures.0;
+      few = IfOk-from_err c.from_residual-in_err-in_edit.result _ c.from_residual-in_err-in_edit.ensures.0;
     }
 
 pub returns : goal.returns
@@ -99,7 +99,7 @@ returns g c =
     let bytes = c.args.bytes.now in
     let i = c.loop-drawn.drawn in
     let done : i ≡ c.args.count = omega (arith, c.loop-drawn-test.false, c.loop-drawn.auto.drawn-end) in
-    let read : Ok c.in-ok-in-edit.field-0 ≡ in_edit c.args.count (end_of bytes c.loop-drawn.at) = c.in-ok-in-edit.ensures ∙ ap (in_edit c.args.count) c.read-end.ensures in
+    let read : Ok c.in_ok-in_edit.field-0 ≡ in_edit c.args.count (end_of bytes c.loop-drawn.at) = c.in_ok-in_edit.ensures ∙ ap (in_edit c.args.count) c.read_end.ensures in
     let all = sym c.loop-drawn.invariant.3 ∙ edits_end edge whole bytes c.args.count i c.loop-drawn.at c.loop-drawn.total c.loop-drawn.outline.frame c.loop-drawn.stations c.loop-drawn.edits done in
     record {
       answer = ap (result_map_both (λ (u : Unit {0}). c.loop-drawn.total) Field) read ∙ sym (ap (λ (s : Strokes). s.answer) all);
