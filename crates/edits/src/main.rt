@@ -36,7 +36,7 @@ fn read_ground(rt: &HostRuntime) -> anyhow::Result<Ground> {
         } else if word.as_str() == "-k" {
             scale_next = true;
         } else {
-            return Err(USAGE.into());
+            return Err(anyhow!(USAGE));
         }
     }
     if scale_next {

@@ -35,62 +35,62 @@ returns-in_err-header c =
       rule = whole_rule;
     }
 
-pub returns-in_err-ellipsoid : goal.returns-in_err-ellipsoid
-returns-in_err-ellipsoid c =
+pub returns-in_err-ellipsoid-in-Wgs84 : goal.returns-in_err-ellipsoid-in-Wgs84
+returns-in_err-ellipsoid-in-Wgs84 c =
     let stations = c.args.stations.now in
     let edits = c.args.edits.now in
     let bytes = c.args.bytes.now in
     let header = c.in_ok-header.header in
     let read : Ok header ≡ in_edit 0 (header_of bytes) = c.in_ok-header.ensures ∙ ap (in_edit 0) c.read_header.ensures.header in
-    let p = mapped_err (λ refusal. Outline 0 0 refusal) c.wgs84.result c.in_err-ellipsoid.field-0.0 c.in_err-ellipsoid.ensures in
+    let p = mapped_err (λ refusal. Outline 0 0 refusal) c.wgs84.result c.in_err-ellipsoid-in-Wgs84.field-0.0 c.in_err-ellipsoid-in-Wgs84.ensures in
     let refused : shape_refusal series wgs84_a wgs84_f ≡ Some p.0 = MatchResult-at_err _ (λ e. shape_refusal series wgs84_a wgs84_f ≡ Some e) p.0 p.1 c.wgs84.ensures in
     let is = head_refused stations edits bytes header read p.0 (ellipsoid_refused header.surface c.in-Wgs84.is (Some p.0) refused) in
-    let q = leaves c.from_residual-in_err-ellipsoid.result c.in_err-ellipsoid.field-0.0 c.from_residual-in_err-ellipsoid.ensures.1 in
+    let q = leaves c.from_residual-in_err-ellipsoid-in-Wgs84.result c.in_err-ellipsoid-in-Wgs84.field-0.0 c.from_residual-in_err-ellipsoid-in-Wgs84.ensures.1 in
     record {
       answer = q ∙ ap Err p.2 ∙ sym (ap (λ (s : Sheet). s.answer) is);
       stations = sym (ap (λ (s : Sheet). s.stations) is);
       edits = sym (ap (λ (s : Sheet). s.edits) is);
-      fresh = λ k found. IfOk-from_err c.from_residual-in_err-ellipsoid.result _ c.from_residual-in_err-ellipsoid.ensures.0;
+      fresh = λ k found. IfOk-from_err c.from_residual-in_err-ellipsoid-in-Wgs84.result _ c.from_residual-in_err-ellipsoid-in-Wgs84.ensures.0;
       listed = list_law;
       surfaces = stand;
       rule = whole_rule;
     }
 
-pub returns-in_err-plate : goal.returns-in_err-plate
-returns-in_err-plate c =
+pub returns-in_err-plate-in-Plate : goal.returns-in_err-plate-in-Plate
+returns-in_err-plate-in-Plate c =
     let stations = c.args.stations.now in
     let edits = c.args.edits.now in
     let bytes = c.args.bytes.now in
     let header = c.in_ok-header.header in
     let read : Ok header ≡ in_edit 0 (header_of bytes) = c.in_ok-header.ensures ∙ ap (in_edit 0) c.read_header.ensures.header in
-    let p = mapped_err (λ refusal. Outline 0 0 refusal) c.new.result c.in_err-plate.field-0.0 c.in_err-plate.ensures in
+    let p = mapped_err (λ refusal. Outline 0 0 refusal) c.new.result c.in_err-plate-in-Plate.field-0.0 c.in_err-plate-in-Plate.ensures in
     let refused : plate_refusal one ≡ Some p.0 = MatchResult-at_err _ (λ e. plate_refusal one ≡ Some e) p.0 p.1 c.new.ensures in
     let is = head_refused stations edits bytes header read p.0 (plate_refused header.surface c.in-Plate.is (Some p.0) refused) in
-    let q = leaves c.from_residual-in_err-plate.result c.in_err-plate.field-0.0 c.from_residual-in_err-plate.ensures.1 in
+    let q = leaves c.from_residual-in_err-plate-in-Plate.result c.in_err-plate-in-Plate.field-0.0 c.from_residual-in_err-plate-in-Plate.ensures.1 in
     record {
       answer = q ∙ ap Err p.2 ∙ sym (ap (λ (s : Sheet). s.answer) is);
       stations = sym (ap (λ (s : Sheet). s.stations) is);
       edits = sym (ap (λ (s : Sheet). s.edits) is);
-      fresh = λ k found. IfOk-from_err c.from_residual-in_err-plate.result _ c.from_residual-in_err-plate.ensures.0;
+      fresh = λ k found. IfOk-from_err c.from_residual-in_err-plate-in-Plate.result _ c.from_residual-in_err-plate-in-Plate.ensures.0;
       listed = list_law;
       surfaces = stand;
       rule = whole_rule;
     }
 
-pub returns-in_ok-ellipsoid : goal.returns-in_ok-ellipsoid
-returns-in_ok-ellipsoid c =
+pub returns-in_ok-ellipsoid-in-Wgs84 : goal.returns-in_ok-ellipsoid-in-Wgs84
+returns-in_ok-ellipsoid-in-Wgs84 c =
     let stations = c.args.stations.now in
     let edits = c.args.edits.now in
     let bytes = c.args.bytes.now in
     let header = c.in_ok-header.header in
     let read : Ok header ≡ in_edit 0 (header_of bytes) = c.in_ok-header.ensures ∙ ap (in_edit 0) c.read_header.ensures.header in
-    let ellipsoid = c.in_ok-ellipsoid.ellipsoid in
-    let is = mapped_ok (λ refusal. Outline 0 0 refusal) c.wgs84.result ellipsoid c.in_ok-ellipsoid.ensures in
+    let ellipsoid = c.in_ok-ellipsoid-in-Wgs84.ellipsoid in
+    let is = mapped_ok (λ refusal. Outline 0 0 refusal) c.wgs84.result ellipsoid c.in_ok-ellipsoid-in-Wgs84.ensures in
     let made = MatchResult-at_ok _ _ ellipsoid is c.wgs84.ensures in
-    let edge = edge_of series c.in_ok-ellipsoid.ellipsoid.shape in
-    let whole = whole_of c.in_ok-ellipsoid.ellipsoid.shape in
-    let edge-is = ellipsoid_edges header.surface c.in-Wgs84.is c.in_ok-ellipsoid.ellipsoid.shape made.2 in
-    let whole_is = ellipsoid-whole header.surface c.in-Wgs84.is c.in_ok-ellipsoid.ellipsoid.shape made.2 in
+    let edge = edge_of series c.in_ok-ellipsoid-in-Wgs84.ellipsoid.shape in
+    let whole = whole_of c.in_ok-ellipsoid-in-Wgs84.ellipsoid.shape in
+    let edge-is = ellipsoid_edges header.surface c.in-Wgs84.is c.in_ok-ellipsoid-in-Wgs84.ellipsoid.shape made.2 in
+    let whole_is = ellipsoid-whole header.surface c.in-Wgs84.is c.in_ok-ellipsoid-in-Wgs84.ellipsoid.shape made.2 in
     let granted = ellipsoid_refused header.surface c.in-Wgs84.is None made.0 in
     let sheet = head_on stations edits bytes header read edge whole granted edge-is whole_is in
     record {
@@ -103,15 +103,15 @@ returns-in_ok-ellipsoid c =
       rule = whole_rule;
     }
 
-pub returns-in_ok-plate : goal.returns-in_ok-plate
-returns-in_ok-plate c =
+pub returns-in_ok-plate-in-Plate : goal.returns-in_ok-plate-in-Plate
+returns-in_ok-plate-in-Plate c =
     let stations = c.args.stations.now in
     let edits = c.args.edits.now in
     let bytes = c.args.bytes.now in
     let header = c.in_ok-header.header in
     let read : Ok header ≡ in_edit 0 (header_of bytes) = c.in_ok-header.ensures ∙ ap (in_edit 0) c.read_header.ensures.header in
-    let plate = c.in_ok-plate.plate in
-    let is = mapped_ok (λ refusal. Outline 0 0 refusal) c.new.result plate c.in_ok-plate.ensures in
+    let plate = c.in_ok-plate-in-Plate.plate in
+    let is = mapped_ok (λ refusal. Outline 0 0 refusal) c.new.result plate c.in_ok-plate-in-Plate.ensures in
     let made = MatchResult-at_ok (λ x. (plate_refusal one ≡ None) × (x.scale ≡ one)) _ plate is c.new.ensures in
     let edge = plate_edge plate.scale in
     let whole = plate_area plate.scale in
