@@ -28,10 +28,10 @@ returns c =
     let up = c.in-Ok.ensures in
     let a = add_of (edges_on g) f c.args.stations.now c.args.edits.now c.args.lat c.args.lon in
     let e = add_done k c.args.stations.now c.args.edits.now c.args.cost.now g f up c.args.lat c.args.lon in
-    let code : c.tell-cost.result ≡ answer_code a.answer = c.tell-cost.ensures.code ∙ ap answer_code c.add-answer.ensures.answer in
+    let code : c.tell_cost.result ≡ answer_code a.answer = c.tell_cost.ensures.code ∙ ap answer_code c.add-answer.ensures.answer in
     let left = ap (λ (x : Frame). kept_with k x.counts) (c.frame.ensures ∙ c.add-answer.ensures.frame) in
-    let cost = c.tell-cost.ensures.cost ∙ ap (written c.args.cost.now) c.add-answer.ensures.answer in
-    let stay = λ (faulty : c.tell-cost.result ≡ 0 → ⊥). stayed k c.args.stations.now c.args.edits.now c.args.cost.now g f up a (add_stays f c.args.stations.now c.args.edits.now (edges_on g) c.args.lat c.args.lon) (λ z. faulty (code ∙ z)) in
+    let cost = c.tell_cost.ensures.cost ∙ ap (written c.args.cost.now) c.add-answer.ensures.answer in
+    let stay = λ (faulty : c.tell_cost.result ≡ 0 → ⊥). stayed k c.args.stations.now c.args.edits.now c.args.cost.now g f up a (add_stays f c.args.stations.now c.args.edits.now (edges_on g) c.args.lat c.args.lon) (λ z. faulty (code ∙ z)) in
     record {
       code = code ∙ sym (ap (λ (l : Left). l.code) e);
       kept = left ∙ sym (ap (λ (l : Left). l.kept) e);

@@ -28,20 +28,20 @@ returns c =
     let up = c.in-Ok.ensures in
     let a = move_of (edges_on g) f c.args.stations.now c.args.edits.now c.args.place c.args.lat c.args.lon in
     let e = move_done k c.args.stations.now c.args.edits.now c.args.cost.now g f up c.args.place c.args.lat c.args.lon in
-    let code : c.tell-cost.result ≡ answer_code a.answer = c.tell-cost.ensures.code ∙ ap answer_code c.move-to-answer.ensures.answer in
-    let left = ap (λ (x : Frame). kept_with k x.counts) (c.frame.ensures ∙ c.move-to-answer.ensures.frame) in
-    let cost = c.tell-cost.ensures.cost ∙ ap (written c.args.cost.now) c.move-to-answer.ensures.answer in
-    let stay = λ (faulty : c.tell-cost.result ≡ 0 → ⊥). stayed k c.args.stations.now c.args.edits.now c.args.cost.now g f up a (move_stays f c.args.stations.now c.args.edits.now (edges_on g) c.args.place c.args.lat c.args.lon) (λ z. faulty (code ∙ z)) in
+    let code : c.tell_cost.result ≡ answer_code a.answer = c.tell_cost.ensures.code ∙ ap answer_code c.move_to-answer.ensures.answer in
+    let left = ap (λ (x : Frame). kept_with k x.counts) (c.frame.ensures ∙ c.move_to-answer.ensures.frame) in
+    let cost = c.tell_cost.ensures.cost ∙ ap (written c.args.cost.now) c.move_to-answer.ensures.answer in
+    let stay = λ (faulty : c.tell_cost.result ≡ 0 → ⊥). stayed k c.args.stations.now c.args.edits.now c.args.cost.now g f up a (move_stays f c.args.stations.now c.args.edits.now (edges_on g) c.args.place c.args.lat c.args.lon) (λ z. faulty (code ∙ z)) in
     record {
       code = code ∙ sym (ap (λ (l : Left). l.code) e);
       kept = left ∙ sym (ap (λ (l : Left). l.kept) e);
-      stations = c.move-to-answer.ensures.stations ∙ sym (ap (λ (l : Left). l.stations) e);
-      edits = c.move-to-answer.ensures.edits ∙ sym (ap (λ (l : Left). l.edits) e);
+      stations = c.move_to-answer.ensures.stations ∙ sym (ap (λ (l : Left). l.stations) e);
+      edits = c.move_to-answer.ensures.edits ∙ sym (ap (λ (l : Left). l.edits) e);
       cost = cost ∙ sym (ap (λ (l : Left). l.cost) e);
       refused = λ faulty. record {
         kept = left ∙ (stay faulty).kept;
-        stations = c.move-to-answer.ensures.stations ∙ (stay faulty).stations;
-        edits = c.move-to-answer.ensures.edits ∙ (stay faulty).edits;
+        stations = c.move_to-answer.ensures.stations ∙ (stay faulty).stations;
+        edits = c.move_to-answer.ensures.edits ∙ (stay faulty).edits;
         cost = cost ∙ (stay faulty).cost;
       };
     }
