@@ -1,5 +1,5 @@
 -- The turns of Newton's method one by one, and that they make at most as many evaluations as there are turns.
-use Rattle.std.proofs.Common.{◌≡◌, ℕ, zero, suc, ◌+◌, ◌-◌, ◌<◌, ◌≤◌, sym, refl, ap, ◌∙◌, subst, arith}
+use Rattle.std.proofs.Common.{◌≡◌, ℕ, zero, suc, ◌+◌, ◌-◌, ◌<◌, ◌≤◌, ap, ◌∙◌, arith}
 use Rattle.functions.specs.Sets.{Funcs}
 use Rattle.azimuth.specs.Newton.{one_turn, found, after, turns, solved_azimuth, begun}
 use Rattle.ellipsoid.specs.declared.arcs.Azimuth.{Azimuth}

@@ -5,7 +5,7 @@ use Rattle.std.specs.Float.{float_with_sign}
 use Rattle.functions.specs.Sets.{Funcs}
 use Rattle.floats.specs.Arithmetic.{◌⊕◌, ◌⊖◌, ◌⊗◌, ◌⊘◌, ◌≺◌, ◌≗◌}
 use Rattle.floats.specs.Choices.{larger_of}
-use Rattle.geomath.specs.Angles.{zero, one, two, square, not_a_number}
+use Rattle.geomath.specs.Angles.{zero, two, square, not_a_number}
 use Rattle.series.specs.Vectors.{norm_x, norm_y}
 use Rattle.ellipsoid.specs.Arcs.{arc_of, wave}
 use Rattle.ellipsoid.specs.Capabilities.{reduced_length}

@@ -1,6 +1,6 @@
 -- Newton's method for the azimuth α1 at which λ12 is the wanted one, kept within a bracket and replaced by bisection where it fails; Karney (2013), section 4. Assumes nothing.
 -- λ12 grows with α1 through its root, which is single, so a positive error bounds α1 from one side and a negative one from the other.
-use Rattle.std.specs.Prelude.{ℕ, zero, suc, ◌+◌, Bool, true, false, cond, ◌&&◌, ◌||◌, is_nan, nat_lt, Float}
+use Rattle.std.specs.Prelude.{ℕ, zero, suc, ◌+◌, Bool, false, cond, ◌&&◌, ◌||◌, is_nan, nat_lt, Float}
 use Rattle.std.specs.Float.Ieee.{neg}
 use Rattle.std.specs.Float.{float_with_sign}
 use Rattle.functions.specs.Sets.{Funcs}

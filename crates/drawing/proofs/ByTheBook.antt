@@ -1,31 +1,26 @@
 -- The edits of a sheet on a new outline come to what the book says of them: each is refused exactly when the book refuses it, and costs and leaves what the book says.
-use Rattle.std.proofs.Common.{◌≡◌, ℕ, zero, suc, ◌≤◌, Bool, true, false, cond, eqb, ltb, List, [], ◌∷◌, length, Some, None, Ok, Err, Option, Result, sym, refl, ap, ◌∙◌, subst, arith}
+use Rattle.std.proofs.Common.{◌≡◌, ℕ, zero, suc, ◌≤◌, true, eqb, List, [], length, Some, None, Ok, Err, Option, Result, sym, refl, ap, ◌∙◌, subst}
 use lib.Ieee.{Float}
 use Rattle.std.specs.Result.{result_map_both}
 use Rattle.std.proofs.lemmas.Bool.{eq-eqb, and_from, cond-true}
 use Rattle.surface.specs.declared.refusals.Refusal.{Refusal}
 use Rattle.surface.specs.declared.refusals.Refusal.TheVariants.{RowLength}
 use Rattle.area.specs.declared.Winding.{Winding}
-use Rattle.polygon.specs.Polygons.{Solve, closing_edge, figures_of}
+use Rattle.polygon.specs.Polygons.{Solve}
 use Rattle.stations.specs.declared.Station.{Station}
 use Rattle.stations.specs.declared.Cost.{Cost}
 use Rattle.stations.specs.declared.records.EditRecord.{EditRecord}
-use Rattle.stations.specs.Stations.{free, together}
+use Rattle.stations.specs.Stations.{together}
 use Rattle.history.specs.declared.Sizes.{Sizes}
 use Rattle.history.specs.declared.Frame.{Frame}
-use Rattle.history.specs.declared.Measurement.{Measurement}
 use Rattle.history.specs.declared.Call.{Call}
-use Rattle.history.specs.declared.Call.TheVariants.{Measure}
-use Rattle.history.specs.declared.Answer.{Answer}
-use Rattle.history.specs.declared.Answer.TheVariants.{Edited, Measured, Refused}
-use Rattle.history.specs.Calls.{Done, done_of, same_lengths, measure_of, measure_answer, open_refusal, opened, lengths_of}
-use Rattle.history.specs.Book.{Book, empty_book, refusal_on, book_refusal, changed, unless_refused}
-use Rattle.history.specs.Histories.{refusal_in, computed}
-use Rattle.history.specs.Replays.{Ran, ran}
-use Rattle.history.specs.Expenses.{cost_of, cost_in, records_after, solved_by}
+use Rattle.history.specs.Calls.{Done, done_of, same_lengths}
+use Rattle.history.specs.Book.{Book, refusal_on, book_refusal, changed, unless_refused}
+use Rattle.history.specs.Histories.{refusal_in}
+use Rattle.history.specs.Replays.{ran}
+use Rattle.history.specs.Expenses.{cost_in}
 use Rattle.history.proofs.Pasts.{newest_first}
 use Rattle.history.proofs.Following.{Follows, Right, call_right}
-use Rattle.history.proofs.Law.{opening_follows, opening_bound}
 use Rattle.history.proofs.Spending.{Spends, call_spends}
 use Rattle.history.proofs.Refusing.{refused_same}
 use Rattle.packed.specs.declared.faults.EditFault.{EditFault}
@@ -35,7 +30,7 @@ use Rattle.packed.specs.declared.sheets.Edit.{Edit}
 use Rattle.packed.specs.Faults.{in_edit}
 use Rattle.packed.specs.Sheets.{edit_of, end_of}
 use Rattle.drawing.specs.Strokes.{call_of, Stroke, stroke_answer, stroke_of, edit_drawn, Strokes, gone_on, edits_drawn}
-use Rattle.drawing.specs.Sketches.{Sketch, blank_sheet, sketched_by, Course, stopped, begun_by, ended_by, once_read, unless_off, course_from}
+use Rattle.drawing.specs.Sketches.{Sketch, sketched_by, Course, stopped, begun_by, ended_by, once_read, unless_off, course_from}
 use Rattle.drawing.proofs.Drawn.{stroke_by}
 
 -- what the edits answer: the fault, or the cost of all

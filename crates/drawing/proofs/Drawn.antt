@@ -1,5 +1,5 @@
 -- What one edit comes to, by what was read of it; and what is left of the edits, one edit after the other.
-use Rattle.std.proofs.Common.{◌≡◌, ℕ, zero, suc, ◌+◌, ◌-◌, ◌<◌, ◌≤◌, List, Ok, Err, Result, sym, refl, ap, ◌∙◌, add-one, arith}
+use Rattle.std.proofs.Common.{◌≡◌, ℕ, suc, ◌+◌, ◌-◌, ◌<◌, List, Ok, Err, Result, sym, ap, ◌∙◌, add-one, arith}
 use lib.Ieee.{Float}
 use Rattle.std.specs.Result.{result_map_both}
 use Rattle.polygon.specs.Polygons.{Solve}

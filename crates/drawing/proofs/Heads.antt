@@ -1,5 +1,5 @@
 -- What a sheet comes to by its header: a fault, a surface that is refused, or the sheet on its surface.
-use Rattle.std.proofs.Common.{◌≡◌, ℕ, List, IfOk, Some, None, Ok, Err, Option, Result, sym, refl, ap, ◌∙◌, subst, arith}
+use Rattle.std.proofs.Common.{◌≡◌, ℕ, List, IfOk, Some, None, Ok, Err, Option, Result, sym, ap, ◌∙◌, subst, arith}
 use lib.Ieee.{Float}
 use Rattle.geomath.specs.Angles.{one}
 use Rattle.functions.specs.Series.{series}
@@ -24,7 +24,7 @@ use Rattle.packed.specs.Faults.{in_edit}
 use Rattle.packed.specs.Sheets.{header_of}
 use Rattle.drawing.specs.declared.Drawing.{Drawing}
 use Rattle.drawing.specs.Surfaces.{edges_on, whole_on, surface_refusal}
-use Rattle.drawing.specs.Sketches.{Sheet, untouched, unless_refused, sheet_on, once_headed, drawn_sheet, Fresh}
+use Rattle.drawing.specs.Sketches.{untouched, unless_refused, sheet_on, once_headed, drawn_sheet, Fresh}
 
 -- the header that was read is the only one
 same_header : (r : Result Header FieldFault) (h k : Header) → Ok h ≡ in_edit 0 r → r ≡ Ok k → h ≡ k

@@ -1,5 +1,5 @@
 -- A sheet that reads back as a list of edits takes the course of that list: each edit is read where the one before it ends.
-use Rattle.std.proofs.Common.{◌≡◌, ℕ, suc, ◌+◌, List, [], ◌∷◌, length, Ok, Result, sym, refl, ap, ◌∙◌}
+use Rattle.std.proofs.Common.{◌≡◌, ℕ, suc, ◌+◌, List, [], ◌∷◌, length, Result, sym, ap, ◌∙◌}
 use Rattle.polygon.specs.Polygons.{Solve}
 use Rattle.history.specs.declared.Sizes.{Sizes}
 use Rattle.history.specs.Book.{book_refusal}

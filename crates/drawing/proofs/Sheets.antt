@@ -1,5 +1,5 @@
 -- A sheet drawn on a new outline is what the book says: the fault of the first thing wrong, or the figures and the cost of the points that stand.
-use Rattle.std.proofs.Common.{◌≡◌, ℕ, ◌≤◌, Bool, List, [], ◌∷◌, length, Some, None, Ok, Err, Option, Result, sym, refl, ap, ◌∙◌, subst, arith}
+use Rattle.std.proofs.Common.{◌≡◌, ℕ, ◌≤◌, Bool, List, [], ◌∷◌, length, Some, None, Ok, Err, Option, Result, sym, refl, ap, ◌∙◌, arith}
 use lib.Ieee.{Float}
 use Rattle.std.specs.Result.{result_map_both}
 use Rattle.surface.specs.declared.refusals.Refusal.{Refusal}
@@ -13,12 +13,10 @@ use Rattle.history.specs.declared.Sizes.{Sizes}
 use Rattle.history.specs.declared.Frame.{Frame}
 use Rattle.history.specs.declared.Measurement.{Measurement}
 use Rattle.history.specs.declared.Call.TheVariants.{Measure}
-use Rattle.history.specs.declared.Answer.{Answer}
 use Rattle.history.specs.declared.Answer.TheVariants.{Measured}
 use Rattle.history.specs.Calls.{measure_of, measure_answer, open_refusal, opened, lengths_of}
 use Rattle.history.specs.Book.{Book}
 use Rattle.history.specs.Histories.{refusal_in, computed}
-use Rattle.history.specs.Replays.{ran}
 use Rattle.history.specs.Expenses.{cost_of, cost_in}
 use Rattle.history.proofs.Following.{Follows, call_right}
 use Rattle.history.proofs.Law.{opening_follows, opening_bound}
@@ -28,7 +26,7 @@ use Rattle.packed.specs.declared.faults.SheetFault.TheVariants.{Outline}
 use Rattle.packed.specs.declared.sheets.Header.{Header}
 use Rattle.drawing.specs.declared.Drawing.{Drawing}
 use Rattle.drawing.specs.Strokes.{Strokes, edits_drawn}
-use Rattle.drawing.specs.Sketches.{Sketch, blank_sheet, Course, course_of, drawing_of, unless_fault, Sheet, untouched, unless_refused, sheet_after, sheet_on, Fresh}
+use Rattle.drawing.specs.Sketches.{blank_sheet, Course, course_of, drawing_of, unless_fault, Sheet, unless_refused, sheet_after, sheet_on, Fresh}
 use Rattle.drawing.proofs.ByTheBook.{answer_of, Took, took_course}
 
 -- ---- results carried on

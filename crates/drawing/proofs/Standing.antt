@@ -5,8 +5,7 @@ use lib.Ieee.{of_bits, of_fields, neg, add, sub, mul, div, rem, round, units, si
 use lib.Count.{count_trailing_zeros}
 use Rattle.std.specs.Float as Floats
 use Rattle.floats.specs.Polynomials.{horner, polynomial}
-use Rattle.functions.specs.Coefficients.{sign_of, factorial, down_from, area_terms}
-use Rattle.functions.specs.Arcs.{arc_tangent_of}
+use Rattle.functions.specs.Coefficients.{sign_of, down_from, area_terms}
 use Rattle.series.specs.Eccentric.{eatanhe}
 use Rattle.ellipsoid.specs.Ellipsoids.{c2_of, ellipsoid, whole_of}
 use Rattle.geodesic.specs.Shapes.{shape_refusal}

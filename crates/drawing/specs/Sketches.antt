@@ -11,7 +11,7 @@ use Rattle.history.specs.declared.Call.{Call}
 use Rattle.history.specs.Calls.{open_refusal, opened, lengths_of}
 use Rattle.history.specs.Book.{Book, empty_book, book_refusal, changed}
 use Rattle.history.specs.Histories.{computed}
-use Rattle.history.specs.Replays.{Ran, ran}
+use Rattle.history.specs.Replays.{ran}
 use Rattle.history.specs.Expenses.{cost_of, records_after, solved_by}
 use Rattle.packed.specs.declared.faults.EditFault.{EditFault}
 use Rattle.packed.specs.declared.faults.SheetFault.{SheetFault}

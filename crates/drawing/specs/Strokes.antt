@@ -10,7 +10,7 @@ use Rattle.stations.specs.Stations.{together}
 use Rattle.history.specs.declared.Frame.{Frame}
 use Rattle.history.specs.declared.Call.{Call}
 use Rattle.history.specs.declared.Call.TheVariants as calls
-use Rattle.history.specs.Calls.{Done, done_of}
+use Rattle.history.specs.Calls.{done_of}
 use Rattle.history.specs.Histories.{refusal_in}
 use Rattle.history.specs.Expenses.{cost_in}
 use Rattle.packed.specs.declared.faults.EditFault.{EditFault}

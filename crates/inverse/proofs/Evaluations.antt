@@ -1,22 +1,20 @@
 -- An inverse problem takes at most 83 evaluations of the longitude equation: only a path by Newton's method takes any.
-use Rattle.std.proofs.Common.{◌≡◌, ℕ, ◌≤◌, Bool, true, false, cond, lit≤}
+use Rattle.std.proofs.Common.{ℕ, ◌≤◌, Bool, true, false, cond, lit≤}
 use lib.Ieee.{Float}
 use Rattle.functions.specs.Sets.{Funcs}
 use Rattle.floats.specs.Arithmetic.{◌≽◌}
 use Rattle.geomath.specs.Angles.{zero}
 use Rattle.inverse.specs.Canonical.{canonical, signs}
 use Rattle.inverse.specs.Inverse.{measured, solved, in_order, exchanged_back, restored, inverse}
-use Rattle.inverse.specs.Paths.{on_meridian, on_equator, meridian_arc, meridian_lengths, shortest, meridian_path, equator_path, short_path, found_path, found_lengths, newton_path, started_path, other_path, meridian_first, path_of}
+use Rattle.inverse.specs.Paths.{on_meridian, on_equator, meridian_arc, meridian_lengths, shortest, meridian_path, equator_path, short_path, found_path, newton_path, started_path, other_path, meridian_first, path_of}
 use Rattle.ellipsoid.specs.ReducedLatitudes.{ends_of, difference_of}
 use Rattle.azimuth.specs.Start.{inverse_start}
-use Rattle.azimuth.specs.Newton.{solved_azimuth}
 use Rattle.ellipsoid.specs.declared.arcs.Arc.{Arc}
 use Rattle.ellipsoid.specs.declared.lengths.Lengths.{Lengths}
 use Rattle.inverse.specs.declared.canonical.Canonical.{Canonical}
 use Rattle.inverse.specs.declared.canonical.Signs.{Signs}
 use Rattle.ellipsoid.specs.declared.shape.Ellipsoid.{Ellipsoid}
 use Rattle.inverse.specs.declared.problem.Solved.{Solved}
-use Rattle.inverse.specs.declared.problem.Inverse.{Inverse}
 use Rattle.ellipsoid.specs.declared.latitudes.Ends.{Ends}
 use Rattle.ellipsoid.specs.declared.latitudes.Difference.{Difference}
 use Rattle.inverse.specs.declared.paths.Path.{Path}

@@ -1,8 +1,7 @@
 -- The mirror law: the canonical form of the problem does not change, bit for bit, and s12, a12 and m12 are functions of it alone.
-use Rattle.std.proofs.Common.{◌≡◌, ℕ, ◌<◌, ◌≤◌, Bool, true, false, cond, not, ◌&&◌, T, ℤ, pos, ◌-ℤ◌, neg_ℤ, nat_abs, ◌≤ℤ◌, sym, refl, ap, ◌∙◌, subst, arith, le-ltb}
+use Rattle.std.proofs.Common.{◌≡◌, ℕ, ◌≤◌, Bool, true, false, cond, ◌&&◌, T, ℤ, pos, ◌-ℤ◌, neg_ℤ, nat_abs, ◌≤ℤ◌, sym, refl, ap, ◌∙◌, subst, arith, le-ltb}
 use lib.Signed.{lt_z, le_z, le_z_yes}
 use Rattle.std.proofs.lemmas.Int.{ints}
-use lib.Ieee as Ieee
 use lib.Ieee.{Float, binary64, nan, inf, fin, neg, lt, le, eq, fits, of_bits}
 use lib.Ieee.Fits.{neg-fits, and_l, and_r}
 use lib.Ieee.Bits.{is_true}
@@ -13,19 +12,17 @@ use Rattle.exact.specs.Values.{value, Is}
 use Rattle.exact.proofs.Values.{finite_value, finite_is, is_value, is_tested, neg_is}
 use Rattle.exact.proofs.Orders.{lt_is, le_is}
 use Rattle.floats.specs.Arithmetic.{◌≺◌, ◌≼◌, ◌≽◌}
-use Rattle.geomath.specs.Angles.{quarter_turn, ang_round, lat_fix, not_a_number, accepts, ang_diff, ang_diff_error}
+use Rattle.geomath.specs.Angles.{quarter_turn, ang_round, lat_fix, not_a_number, accepts}
 use Rattle.geomath.specs.Exact.{exactly}
 use Rattle.geomath.proofs.Mirror.{round_opposite, mirrored_longitudes}
 use Rattle.geomath.proofs.OffEquator.{Off, off_equator, size_is}
 use Rattle.geomath.proofs.Latitudes.{mirrored_first, mirrored_second, exchanged_first, exchanged_second, sorted_first, sorted_second}
 use Rattle.inverse.specs.Canonical.{canonical, longitudes, latitudes, sorted, turned_south, signs, rounded}
 use Rattle.inverse.specs.Inverse.{inverse, restored, in_order, exchanged_back, solved}
-use Rattle.inverse.specs.MirrorLaw.{OffEquator, SameLengths, Mirrored, MirrorLaw}
-use Rattle.inverse.specs.declared.canonical.Canonical.{Canonical}
+use Rattle.inverse.specs.MirrorLaw.{OffEquator, SameLengths, MirrorLaw}
 use Rattle.inverse.specs.declared.canonical.Latitudes.{Latitudes}
 use Rattle.inverse.specs.declared.canonical.Signs.{Signs}
 use Rattle.ellipsoid.specs.declared.shape.Ellipsoid.{Ellipsoid}
-use Rattle.inverse.specs.declared.problem.Inverse.{Inverse}
 use Rattle.inverse.specs.declared.problem.Solved.{Solved}
 
 -- ---- the signs leave the lengths alone

@@ -1,5 +1,5 @@
 -- The area S12 between a geodesic and the equator, Karney (2013), eqs. 58, 59 and 62: c² (α2 - α1), the area on the authalic sphere, and the term by which the ellipsoid differs. Assumes nothing.
-use Rattle.std.specs.Prelude.{Bool, false, cond, not, ◌&&◌, ◌||◌, List, ◌==◌, Float}
+use Rattle.std.specs.Prelude.{false, cond, not, ◌&&◌, ◌||◌, List, ◌==◌, Float}
 use Rattle.std.specs.Float.Ieee.{neg}
 use Rattle.functions.specs.Sets.{Funcs}
 use Rattle.floats.specs.Arithmetic.{◌⊕◌, ◌⊖◌, ◌⊗◌, ◌≺◌, ◌≻◌, ◌≗◌}

@@ -1,6 +1,5 @@
 -- A point that is not refused is fed to the traverse.
 use Rattle.std.proofs.Common.{◌≡◌, List, [], ◌∷◌, None, sym, refl, ap}
-use lib.Ieee.{Float}
 use Rattle.polygon.specs.declared.Point.{Point}
 use Rattle.polygon.specs.declared.Traverse.{Traverse}
 use Rattle.polygon.specs.Polygons.{Solve}

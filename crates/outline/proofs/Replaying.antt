@@ -1,5 +1,5 @@
 -- A loop over calls: what it keeps, that one call more keeps it, and what it says at the end.
-use Rattle.std.proofs.Common.{◌≡◌, ℕ, ◌+◌, ◌<◌, ◌≤◌, List, [], ◌∷◌, ◌++◌, length, get_or, take, drop, set, sym, refl, ap, ◌∙◌, arith}
+use Rattle.std.proofs.Common.{◌≡◌, ℕ, ◌+◌, ◌<◌, ◌≤◌, List, [], ◌∷◌, ◌++◌, length, get_or, take, drop, set, sym, ap, ◌∙◌}
 use lib.Ieee.{Float}
 use Rattle.std.proofs.lemmas.List.{append_assoc, append-nil, take-append-drop, take_more_set, drop_more, drop-set-lt, drop_all, get_or-take, get_or_default}
 use Rattle.polygon.specs.Polygons.{Solve}

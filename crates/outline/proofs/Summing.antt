@@ -1,13 +1,12 @@
 -- The sums over a row, one station after the other; its first and its last point.
-use Rattle.std.proofs.Common.{◌≡◌, ℕ, suc, ◌+◌, ◌-◌, ◌<◌, ◌≤◌, List, [], ◌∷◌, map, length, get_or, drop, pos, ◌+ℤ◌, sym, refl, ap, ◌∙◌, arith}
+use Rattle.std.proofs.Common.{◌≡◌, ℕ, suc, ◌+◌, ◌-◌, ◌<◌, ◌≤◌, List, [], ◌∷◌, map, length, get_or, drop, refl, ap, ◌∙◌, arith}
 use Rattle.std.proofs.lemmas.List.{at_drop_more, at_drop_all, nil_from_length}
-use Rattle.geomath.specs.Angles.{zero}
 use Rattle.polygon.specs.declared.Point.{Point}
 use Rattle.polygon.specs.Polygons.{origin, added_to, counted_to, first_of, last_after, last_of}
 use Rattle.stations.specs.declared.Station.{Station}
 use Rattle.stations.specs.Stations.{blank, point_of, point_at}
 use Rattle.outline.specs.declared.sums.Sums.{Sums}
-use Rattle.outline.specs.Sums.{plus, sums_of}
+use Rattle.outline.specs.Sums.{plus}
 
 -- the sums t and those of a row together
 abbrev pub on_from : Sums → List Station → Sums

@@ -1,5 +1,5 @@
 -- Worked examples of the definitions, with that of an outline whose edit row has one slot. Assumes nothing.
-use Rattle.std.specs.Prelude.{◌≡◌, ℕ, List, [], ◌∷◌, length, Some, None, Option}
+use Rattle.std.specs.Prelude.{◌≡◌, length, Some}
 use Rattle.surface.specs.declared.refusals.Refusal.TheVariants.{NothingToTakeBack}
 use Rattle.surface.specs.Refusals.{number_of}
 use Rattle.polygon.specs.Examples.{Examples, plus}

@@ -1,5 +1,5 @@
 -- The sums over stations in their order. Assumes nothing.
-use Rattle.std.specs.Prelude.{List, [], ◌∷◌, map, ℤ, pos, ◌+ℤ◌}
+use Rattle.std.specs.Prelude.{List, map, pos, ◌+ℤ◌}
 use Rattle.floats.specs.Arithmetic.{◌⊕◌}
 use Rattle.geomath.specs.Angles.{zero}
 use Rattle.polygon.specs.Polygons.{added_to, counted_to}

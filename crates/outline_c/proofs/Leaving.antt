@@ -1,5 +1,5 @@
 -- What a call on the outline that is taken up leaves is what the definition of the call from C says. Assumes nothing.
-use Rattle.std.proofs.Common.{◌≡◌, ℕ, ◌+◌, ◌-◌, Bool, true, false, cond, eqb, ltb, List, length, Some, None, Ok, Err, Option, Result, sym, refl, ap, ◌∙◌}
+use Rattle.std.proofs.Common.{◌≡◌, ℕ, ◌+◌, ◌-◌, Bool, true, false, cond, eqb, ltb, List, length, Some, None, Ok, Err, Result, refl, ap, ◌∙◌}
 use lib.Ieee.{Float}
 use Rattle.geomath.specs.Angles.{accepts}
 use Rattle.surface.specs.declared.refusals.Refusal.{Refusal}
@@ -16,10 +16,10 @@ use Rattle.history.specs.Calls.{After, lengths_of, same_lengths, refuse, edited,
 use Rattle.outline_c.specs.declared.faults.Fault.{Fault}
 use Rattle.outline_c.specs.declared.grounds.Ground.{Ground}
 use Rattle.outline_c.specs.declared.kept.KeptOutline.{KeptOutline}
-use Rattle.outline_c.specs.Grounds.{edges_on, whole_on, edges_of, whole_of}
+use Rattle.outline_c.specs.Grounds.{edges_on, whole_on, edges_of}
 use Rattle.outline_c.specs.Kept.{frame_of, kept_fault, TakenUp}
 use Rattle.outline_c.specs.Faults.{code_of}
-use Rattle.outline_c.specs.Exports.{answer_code, written, kept_with, Left, left_by, add_left, move_left, drop_left, take_back_left, Stayed, Measured, measured_by, measure_left}
+use Rattle.outline_c.specs.Exports.{answer_code, written, kept_with, left_by, add_left, move_left, drop_left, take_back_left, Stayed, measured_by, measure_left}
 
 -- ---- a refused call leaves everything
 

@@ -1,5 +1,5 @@
 -- Why a call from C is not done, and the number by which it is told. Assumes nothing.
-use Rattle.std.specs.Prelude.{ℕ, Bool, cond, Some, None, Option}
+use Rattle.std.specs.Prelude.{ℕ, Some, None, Option}
 use Rattle.surface.specs.declared.refusals.Refusal.{Refusal}
 use Rattle.surface.specs.Refusals.{number_of}
 use Rattle.outline_c.specs.declared.faults.Fault.{Fault}

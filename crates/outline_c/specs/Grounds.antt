@@ -1,5 +1,5 @@
 -- What an outline is drawn on, by the number of a surface and a scale: 0 the WGS84 ellipsoid over the series set, 1 a plate. Assumes nothing.
-use Rattle.std.specs.Prelude.{ℕ, Bool, cond, Some, None, Option, ◌==◌, Float}
+use Rattle.std.specs.Prelude.{ℕ, cond, Some, None, Option, ◌==◌, Float}
 use Rattle.functions.specs.Series.{series}
 use Rattle.surface.specs.Plates.{plate_area, plate_edge, plate_refusal}
 use Rattle.earth.specs.Wgs84.{wgs84}

@@ -1,8 +1,7 @@
 -- The outline that a program in C keeps: what it is of, and why it cannot be taken up. Assumes nothing.
-use Rattle.std.specs.Prelude.{◌≡◌, ℕ, Bool, cond, Some, None, Option, ◌==◌, Float}
+use Rattle.std.specs.Prelude.{◌≡◌, ℕ, cond, Some, None, Option, ◌==◌}
 use Rattle.area.specs.declared.Winding.{Winding}
 use Rattle.area.specs.declared.Winding.TheVariants.{Clockwise, CounterClockwise}
-use Rattle.history.specs.declared.Sizes.{Sizes}
 use Rattle.history.specs.declared.Frame.{Frame}
 use Rattle.outline.specs.Resuming.{resume_refusal}
 use Rattle.outline_c.specs.declared.faults.Fault.{Fault}

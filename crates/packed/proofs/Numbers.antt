@@ -4,7 +4,7 @@ use native.Mathlib.Nat.{mod-one, add-mul-mod_self_right, add-mul-div_right}
 use Rattle.std.proofs.lemmas.Nat.{pow_pos, pow-add, shr-shr, shr_high, mul-add-lt, mod-pow-add}
 use Rattle.std.proofs.lemmas.Bool.Decides.{leb_tells}
 use Rattle.packed.specs.Bits.{bit, field}
-use Rattle.packed.specs.Numbers.{number, Bytes, Fields_are_numbers}
+use Rattle.packed.specs.Numbers.{number, Bytes, FieldsAreNumbers}
 use Rattle.packed.proofs.Fields.{field-none, field_more}
 
 grown : (b p r : ℕ) → b < 256 → r < p → b * p + r < 256 * p
@@ -85,7 +85,7 @@ digit_more M w f d e k =
     ap (λ x. 2 * x + d) e ∙ ap (λ x. 2 * (M / 2 ^ 1 % 2 ^ w) + x) k
     ∙ (let r : 2 * (M / 2 ^ 1 % 2 ^ w) + M % 2 ≡ (M / 2 ^ 1 % 2 ^ w) * 2 ^ 1 + M % 2 ^ 1 = omega arith in r) ∙ sym p ∙ sym q
 
-pub fields_are_numbers : Fields_are_numbers
+pub fields_are_numbers : FieldsAreNumbers
 fields_are_numbers bytes at zero h inside = field-none bytes at ∙ sym (mod-one (number bytes / 2 ^ (8 * length bytes - (at + 0))))
 fields_are_numbers bytes at (suc w) h inside =
     let j : ℕ = 8 * length bytes - (at + suc w) in

@@ -15,5 +15,5 @@ abbrev pub Bytes : List ℕ → Type 0
 Bytes bytes = (i : ℕ) → slice_index bytes i < 256
 
 -- every field within the file is the number that its binary digits write, whatever its place and its width
-abbrev pub Fields_are_numbers : Type 0
-Fields_are_numbers = (bytes : List ℕ) (at width : ℕ) → Bytes bytes → at + width ≤ 8 * length bytes → field bytes at width ≡ digits_write bytes at width
+abbrev pub FieldsAreNumbers : Type 0
+FieldsAreNumbers = (bytes : List ℕ) (at width : ℕ) → Bytes bytes → at + width ≤ 8 * length bytes → field bytes at width ≡ digits_write bytes at width

@@ -1,6 +1,6 @@
 // Writing a packed sheet.
 ghost use Rattle.std.specs.Prelude.{◌≡◌, ◌+◌, ◌*◌, ◌<◌, ◌≤◌, ◌⊎◌, ◌++◌, length, replicate, IfOk, Ok, Err, vec_len, MatchResult, OnOk};
-ghost use Rattle.std.specs.List.{AllByRecursion as All};
+ghost use Rattle.std.specs.List.{AllByRecursion};
 ghost use Rattle.packed.specs.declared.packs.PackFault.TheVariants.{NoMemory};
 ghost use Rattle.packed.specs.Packing.{with_bit, with_digits, digits_of, point_digits, edit_digits, edits_digits, header_digits, width_of, packed_end, place_fits, FloatsFit, Fitting, packed_sheet, ReadsBack, winding_bit, signed_bit, surface_bits};
 
@@ -99,7 +99,7 @@ fn place_fits(edit: Edit) -> bool
 fn edits_end(edits: &[Edit]) -> Result<usize, PackFault>
     ensures end { result ≡ packed_end 24 edits.now }
     ensures near { IfOk result (λ end. (end ≤ 524288) × (end ≡ 24 + length (edits_digits edits.now))) }
-    ensures fitting { OnOk result (All Fitting edits.now) }
+    ensures fitting { OnOk result (AllByRecursion Fitting edits.now) }
 {
     let mut at = HEADER_BITS;
     for edit in edits {

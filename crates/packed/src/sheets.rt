@@ -1,7 +1,7 @@
 // Reading the header and the edits of a sheet, and its end.
 ghost use Rattle.std.specs.Prelude.{◌≡◌, ◌+◌, ◌≤◌};
 ghost use Rattle.packed.specs.Examples.{Examples};
-ghost use Rattle.packed.specs.Numbers.{Fields_are_numbers};
+ghost use Rattle.packed.specs.Numbers.{FieldsAreNumbers};
 ghost use Rattle.packed.specs.Sheets.{header_of, edit_at, edit_of, end_of, first_one, add_at, move_at, drop_at, point_at, winding_of, surface_of};
 
 use crate::bits::{bit_at, read_at};
@@ -64,7 +64,7 @@ fn surface_of(kind: u64) -> Result<SurfaceKind, FieldFault>
 // The header, which takes the first 24 bits.
 pub fn read_header(bytes: &[u8]) -> Result<Header, FieldFault>
     ensures header { result ≡ header_of bytes.now }
-    ensures fields { Fields_are_numbers }
+    ensures fields { FieldsAreNumbers }
     ensures examples { Examples }
 {
     let edition = read_at(bytes, 0, 4)?;

@@ -1,5 +1,5 @@
 -- What is printed of a sheet: five lines of figures, or one line of its fault. Assumes nothing.
-use Rattle.std.specs.Prelude.{ℕ, List, [], ◌∷◌, ◌++◌, Ok, Err, codes, decimal, Result}
+use Rattle.std.specs.Prelude.{ℕ, List, ◌++◌, Ok, Err, codes, decimal, Result}
 use Rattle.text.specs.Patterns.{pattern_digits}
 use Rattle.packed.specs.declared.faults.Layer.{Layer}
 use Rattle.packed.specs.declared.faults.Layer.TheVariants.{Bits, Field, Outline}

@@ -1,5 +1,5 @@
 -- The edge is the definition's, part by part.
-use Rattle.std.proofs.Common.{◌≡◌, ap, ◌∙◌}
+use Rattle.std.proofs.Common.{ap, ◌∙◌}
 use Rattle.functions.specs.Series.{series}
 use Rattle.surface.specs.declared.Edge.{Edge}
 use Rattle.ellipsoid.specs.declared.shape.Ellipsoid.{Ellipsoid}

@@ -1,5 +1,5 @@
 -- Each turn is one turn of the definition.
-use Rattle.std.proofs.Common.{◌≡◌, ℕ, ◌+◌, ◌-◌, sym, ap, ◌∙◌, arith, lit≤}
+use Rattle.std.proofs.Common.{◌≡◌, ◌+◌, ◌-◌, sym, ap, ◌∙◌, arith, lit≤}
 use Rattle.azimuth.specs.Newton.{found}
 use Rattle.azimuth.proofs.Turns.{turns_stop, turns_go, turns-none, solved_is, turns_left, turns_over}
 use Rattle.azimuth.proofs.newton.solve_azimuth.Goals as goal

@@ -1,5 +1,5 @@
 -- The header is a fault, its surface is refused, or the sheet is drawn on its surface.
-use Rattle.std.proofs.Common.{◌≡◌, length, Some, None, Ok, Err, Option, Result, sym, refl, ap, ◌∙◌, subst}
+use Rattle.std.proofs.Common.{◌≡◌, Some, None, Ok, Err, sym, ap, ◌∙◌}
 use Rattle.std.proofs.lemmas.Result.{IfOk-from_err, MatchResult-at_ok, MatchResult-at_err}
 use Rattle.geomath.specs.Angles.{one}
 use Rattle.functions.specs.Series.{series}
@@ -12,7 +12,7 @@ use Rattle.packed.specs.Faults.{in_edit}
 use Rattle.packed.specs.Sheets.{header_of}
 use Rattle.packed.proofs.Exits.{leaves}
 use Rattle.outline.proofs.WholeRule.{whole_rule}
-use Rattle.drawing.specs.Sketches.{Sheet, sheet_on, drawn_sheet}
+use Rattle.drawing.specs.Sketches.{Sheet}
 use Rattle.drawing.proofs.Listed.{list_law}
 use Rattle.drawing.proofs.Standing.{stand}
 use Rattle.drawing.proofs.Sheets.{mapped_ok, mapped_err}

@@ -1,17 +1,15 @@
 -- The opening is refused, or an edit or the end is a fault, or the outline is measured: in each case the book says what comes.
-use Rattle.std.proofs.Common.{◌≡◌, ◌+◌, ◌*◌, ◌≤◌, length, Some, None, Ok, Err, sym, refl, ap, ◌∙◌, subst, arith}
+use Rattle.std.proofs.Common.{◌≡◌, ◌≤◌, length, Some, None, Ok, Err, sym, refl, ap, ◌∙◌, arith}
 use Rattle.std.specs.Result.{result_err}
 use Rattle.std.proofs.lemmas.Result.{IfOk-from_err, IfOk-at_ok}
 use Rattle.stations.specs.declared.Cost.{Cost}
-use Rattle.stations.specs.Stations.{free, together}
+use Rattle.stations.specs.Stations.{free}
 use Rattle.history.specs.declared.Frame.{Frame}
-use Rattle.history.specs.declared.Measurement.{Measurement}
 use Rattle.history.specs.Calls.{open_refusal, opened, measure_of}
 use Rattle.packed.specs.declared.faults.SheetFault.TheVariants.{Outline}
 use Rattle.packed.proofs.Exits.{leaves}
-use Rattle.drawing.specs.declared.Drawing.{Drawing}
 use Rattle.drawing.specs.Strokes.{Strokes, edits_drawn}
-use Rattle.drawing.specs.Sketches.{Sheet, sheet_on}
+use Rattle.drawing.specs.Sketches.{Sheet}
 use Rattle.drawing.proofs.Sheets.{mapped_ok, mapped_err, sheet_refused, sheet_stations, sheet_edits, sheet_fault, measured_always, sheet_fresh, sheet_done}
 use Rattle.drawing.proofs.sheet.draw_on.Goals as goal
 

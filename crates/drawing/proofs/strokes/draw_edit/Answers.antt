@@ -1,15 +1,15 @@
 -- What was read of the edit, and then what its call answers and leaves.
 use Rattle.std.proofs.Common.{◌≡◌, Ok, Err, sym, refl, ap, ◌∙◌}
 use Rattle.std.proofs.lemmas.Result.{IfOk-from_err}
-use Rattle.history.specs.declared.Answer.TheVariants.{Edited, Measured, Refused}
+use Rattle.history.specs.declared.Answer.TheVariants.{Edited, Refused}
 use Rattle.history.specs.Calls.{Done, done_of}
 use Rattle.packed.specs.declared.faults.SheetFault.TheVariants.{Field}
 use Rattle.packed.specs.Faults.{in_edit}
 use Rattle.packed.specs.Sheets.{edit_of}
 use Rattle.packed.proofs.Exits.{leaves}
 use Rattle.outline.proofs.Replaying.{same_done}
-use Rattle.drawing.specs.Strokes.{Stroke, edit_drawn}
-use Rattle.drawing.proofs.Drawn.{stroke_by, stroke_made, stroke_fault}
+use Rattle.drawing.specs.Strokes.{Stroke}
+use Rattle.drawing.proofs.Drawn.{stroke_made, stroke_fault}
 use Rattle.drawing.proofs.strokes.draw_edit.Goals as goal
 
 pub returns-in_err-edit : goal.returns-in_err-edit

@@ -1,11 +1,8 @@
 -- The edits that are left, one edit fewer with each turn; where one is a fault, or none is left, what they come to is at hand.
-use Rattle.std.proofs.Common.{◌≡◌, ◌+◌, ◌-◌, ◌*◌, ◌≤◌, Ok, Err, sym, refl, ap, ◌∙◌, arith}
-use lib.Ieee.{Float}
+use Rattle.std.proofs.Common.{◌≡◌, ◌+◌, ◌-◌, Ok, Err, sym, refl, ap, ◌∙◌, arith}
 use Rattle.std.specs.Result.{result_map_both}
 use Rattle.std.proofs.lemmas.Result.{IfOk-from_err}
-use Rattle.polygon.specs.Polygons.{Solve}
 use Rattle.stations.specs.declared.Cost.{Cost}
-use Rattle.stations.specs.Stations.{together}
 use Rattle.packed.specs.declared.faults.SheetFault.TheVariants.{Field}
 use Rattle.packed.specs.Faults.{in_edit}
 use Rattle.packed.specs.Sheets.{end_of}

@@ -1,5 +1,5 @@
 -- A point that is not refused is the next of those to come; at the end none is.
-use Rattle.std.proofs.Common.{◌≡◌, ◌+◌, List, get_or, drop, sym, ap, ◌∙◌}
+use Rattle.std.proofs.Common.{◌+◌, get_or, drop, sym, ap, ◌∙◌}
 use lib.Ieee.{nan}
 use Rattle.std.proofs.lemmas.List.{at_drop_more, at_drop_all}
 use Rattle.polygon.specs.declared.Point.{Point}

@@ -1,9 +1,9 @@
-use Rattle.std.proofs.Common.{◌≡◌, ◌<◌, ◌≤◌, length, get_or, take, sym, ap, ◌∙◌, arith}
+use Rattle.std.proofs.Common.{◌≡◌, ◌<◌, ◌≤◌, length, get_or, take, ap, ◌∙◌, arith}
 use lib.Ieee.{nan}
 use Rattle.std.proofs.lemmas.List.{length-take}
 use Rattle.history.specs.declared.Call.TheVariants.{Add}
 use Rattle.history.specs.Calls.{Done, done_of}
-use Rattle.outline.proofs.Replaying.{Going, same_done, read_call, going_more, end_stations, end_edits, end_answers}
+use Rattle.outline.proofs.Replaying.{same_done, read_call, going_more, end_stations, end_edits, end_answers}
 use Rattle.outline.proofs.replays.make_each.Goals as goal
 
 pub loop-i-preserved : goal.loop-i-preserved

@@ -1,6 +1,5 @@
 -- What is left of the calls, made on what the rows hold now, ends as all of them do on what the rows held at first; the answers so far stand in front.
-use Rattle.std.proofs.Common.{◌≡◌, ◌++◌, take, drop}
-use Rattle.history.specs.Replays.{ran}
+use Rattle.std.proofs.Common.{◌≡◌, take}
 use Rattle.outline.proofs.Replaying.{Going}
 use Rattle.outline.proofs.replays.make_each.Given as goal
 

@@ -1,5 +1,5 @@
 -- The opening is refused and nothing changes, or the calls are made on the outline that it gives.
-use Rattle.std.proofs.Common.{◌≡◌, ◌≤◌, ◌++◌, length, take, drop, Some, None, Ok, Err, sym, refl, ap, ◌∙◌, arith}
+use Rattle.std.proofs.Common.{◌≡◌, ◌≤◌, ◌++◌, length, take, drop, None, Ok, Err, sym, ap, ◌∙◌, arith}
 use Rattle.std.proofs.lemmas.Result.{err_from_is_err_and, IfOk-from_err}
 use Rattle.history.specs.declared.Frame.{Frame}
 use Rattle.history.specs.Calls.{open_refusal, opened}

@@ -1,5 +1,4 @@
-use Rattle.std.proofs.Common.{◌≡◌, ◌+◌, ◌≤◌, length, drop, sym, ap, ◌∙◌, arith}
-use Rattle.outline.specs.Sums.{plus, sums_of}
+use Rattle.std.proofs.Common.{◌+◌, ◌≤◌, length, drop, sym, ap, ◌∙◌, arith}
 use Rattle.outline.proofs.Summing.{on_from, on_more, on_all}
 use Rattle.outline.proofs.sums.sums_over.Goals as goal
 

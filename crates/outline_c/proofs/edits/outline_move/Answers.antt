@@ -1,6 +1,5 @@
 -- What the call on the outline that is taken up answers and leaves is what is told; otherwise everything stays.
 use Rattle.std.proofs.Common.{◌≡◌, sym, refl, ap, ◌∙◌}
-use Rattle.stations.specs.declared.Cost.{Cost}
 use Rattle.history.specs.declared.Frame.{Frame}
 use Rattle.history.specs.Calls.{move_of}
 use Rattle.outline_c.specs.Grounds.{edges_on}

@@ -1,7 +1,5 @@
 -- What the measure of the outline that is taken up answers is what is told; otherwise the measurement stays.
-use Rattle.std.proofs.Common.{◌≡◌, Result, sym, refl, ap, ◌∙◌}
-use Rattle.surface.specs.declared.refusals.Refusal.{Refusal}
-use Rattle.history.specs.declared.Measurement.{Measurement}
+use Rattle.std.proofs.Common.{sym, ap, ◌∙◌}
 use Rattle.outline_c.specs.Exports.{Measured, answer_code, written}
 use Rattle.outline_c.proofs.Leaving.{measure_done, measure_fault}
 use Rattle.outline_c.proofs.figures.outline_measure.Goals as goal

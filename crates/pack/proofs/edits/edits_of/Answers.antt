@@ -1,5 +1,5 @@
 -- Where no text is left, no line is.
-use Rattle.std.proofs.Common.{ℕ, List, [], Ok, vec_items, sym, refl, subst, true-eqb}
+use Rattle.std.proofs.Common.{ℕ, List, Ok, vec_items, sym, refl, subst, true-eqb}
 use Rattle.text.proofs.Lines.{lines_none}
 use Rattle.pack.specs.Edits.{Gathers}
 use Rattle.pack.proofs.edits.edits_of.Goals as goal

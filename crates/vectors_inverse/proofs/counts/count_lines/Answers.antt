@@ -1,5 +1,5 @@
 -- Where nothing is left, the count stands.
-use Rattle.std.proofs.Common.{◌≡◌, ℕ, Bool, List, [], length, sym, refl, ap, ◌∙◌, true-eqb}
+use Rattle.std.proofs.Common.{◌≡◌, ℕ, Bool, List, length, sym, ap, ◌∙◌, true-eqb}
 use Rattle.replay.specs.declared.Tally.{Tally}
 use Rattle.text.proofs.Lines.{lines_none}
 use Rattle.text.specs.Words.{lines_of}

@@ -1,4 +1,4 @@
-use Rattle.std.proofs.Common.{vec_items, sym, ◌∙◌, arith, tests, true-eqb, false-eqb}
+use Rattle.std.proofs.Common.{vec_items, sym, ◌∙◌, arith, true-eqb, false-eqb}
 use Rattle.notebook.proofs.Past.{refused_none, accepted_some}
 use Rattle.notebook.proofs.pages.Notebook.take_back_refusal.Goals as goal
 

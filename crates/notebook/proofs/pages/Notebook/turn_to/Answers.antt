@@ -1,5 +1,5 @@
 -- The old list goes in front, and the front of the past is taken list by list.
-use Rattle.std.proofs.Common.{◌≡◌, List, ◌∷◌, map, take, vec_items, ap, ◌∙◌}
+use Rattle.std.proofs.Common.{List, ◌∷◌, map, take, vec_items, ap, ◌∙◌}
 use Rattle.polygon.specs.declared.Point.{Point}
 use Rattle.history.specs.Book.{Book}
 use Rattle.notebook.proofs.Lists.{map-take}

@@ -1,5 +1,5 @@
 -- Each return is what the definition comes to under the same tests.
-use Rattle.std.proofs.Common.{◌≡◌, true, false, Ok, sym, refl, ap, ◌∙◌, arith}
+use Rattle.std.proofs.Common.{Ok, sym, refl, ap, ◌∙◌, arith}
 use Rattle.history.specs.Calls.{After}
 use Rattle.stations.specs.declared.Cost.{Cost}
 use Rattle.stations.proofs.Costing.{moved_edges}

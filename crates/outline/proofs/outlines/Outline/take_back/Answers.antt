@@ -1,5 +1,5 @@
 -- Each return is what the definition comes to under the same tests.
-use Rattle.std.proofs.Common.{◌≡◌, ◌-◌, true, false, Ok, sym, refl, ap, ◌∙◌, arith, eq-eqb, ne_eqb}
+use Rattle.std.proofs.Common.{◌-◌, Ok, sym, refl, ap, ◌∙◌, arith, eq-eqb, ne_eqb}
 use Rattle.stations.specs.declared.Cost.{Cost}
 use Rattle.history.specs.Calls.{After, with_counts, newest_of}
 use Rattle.history.proofs.TakeBackCosts.{take_back_edges_lem}
