@@ -6,6 +6,8 @@ ghost use Rattle.std.specs.Prelude.{◌≡◌};
 ghost use Rattle.area.specs.AreaLaw.{AreaLaw};
 ghost use Rattle.area.specs.Reduction.{is_odd, crossed, turned, placed, reduced_area};
 
+use floats::rem;
+
 /// The sense in which a polygon with a positive area is traversed.
 #[derive(Clone, Copy)]
 pub enum Winding {
@@ -73,7 +75,7 @@ pub fn reduce_area(whole: f64, sum: f64, crossings: i64, winding: Winding, signe
     ensures value { result ≡ reduced_area whole winding signed (is_odd crossings) sum }
     ensures law { AreaLaw whole winding signed (is_odd crossings) sum result }
 {
-    let area = cross(whole, sum % whole, odd(crossings));
+    let area = cross(whole, rem(sum, whole), odd(crossings));
     place(whole, turn(area, winding), signed)
 }
 

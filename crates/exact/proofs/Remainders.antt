@@ -4,6 +4,7 @@ use native.Mathlib.Nat.{mod-le, zero-mod}
 use lib.Signed.{rem_z}
 use lib.Ieee.{Float, Format, nan, inf, fin, prec, low, up, down, round, rem, fits}
 use lib.Ieee.Fits.{down_pos}
+use lib.Ieee.Exact.{HasValue}
 use lib.Ieee.Scale.{round_same, overflow}
 use lib.Ieee.Positive.{first_pos}
 use Rattle.exact.specs.Rounded.{Rep}
@@ -13,7 +14,7 @@ use Rattle.exact.proofs.Scaled.{mod_times, scaled_rest}
 use Rattle.exact.proofs.Sums.{over_first, over_second, rounds_of}
 use Rattle.exact.proofs.Values.{is_rep, is_below}
 use Rattle.exact.proofs.Naturals.{le_or_lt, multiple_of_power}
-use Rattle.exact.proofs.Roundings.{rounds_exact}
+use Rattle.exact.proofs.Roundings.{rounds_exact, round_kept}
 
 -- ---- on natural numbers
 -- with a = c * 2 ^ i and b = d * 2 ^ j, the remainder is a number of digits in the smaller of the two units
@@ -54,28 +55,38 @@ rem_z_signed false a w = refl
 rem_z_signed true zero w = ap pos (zero-mod (nat_abs w)) ∙ ap (λ (k : ℕ). neg_ℤ (pos k)) (sym (zero-mod (nat_abs w)))
 rem_z_signed true (suc a) w = refl
 
--- of a finite x by a finite y that is not zero
-rem-rounds : (f : Format) (x y : Float) (z w : ℤ) → Is f x z → Is f y w → 0 < nat_abs w → Rounds f (rem f x y) (rem_z z w)
+-- of a finite x by a finite y that is not zero, by their signs and sizes
+pub rem_rounded : (f : Format) (x y : Float) (s t : Bool) (a b : ℕ) → HasValue x s a (2 ^ low f) → HasValue y t b (2 ^ low f) → 0 < b → rem f x y ≡ round f s (a % b) (2 ^ low f)
 unfolding rem
-rem-rounds f nan y z w i j W = absurd i.has
-rem-rounds f (inf s) y z w i j W = absurd i.has
-rem-rounds f (fin s m e) nan z w i j W = absurd j.has
-rem-rounds f (fin s m e) (inf t) z w i j W = absurd j.has
-rem-rounds f (fin s m e) (fin t n d) z w i j W =
+rem_rounded f nan y s t a b v w B = absurd v
+rem_rounded f (inf q) y s t a b v w B = absurd v
+rem_rounded f (fin q m e) nan s t a b v w B = absurd w
+rem_rounded f (fin q m e) (inf p) s t a b v w B = absurd w
+rem_rounded f (fin q m e) (fin p n d) s t a b v w B =
     let L = 2 ^ low f in
     let C = down e * down d in
     let A = m * up e * down d in
-    let B = n * up d * down e in
-    let some : 0 < n = first_pos n (up d) (first_pos (n * up d) L (subst (λ (k : ℕ). 0 < k) (sym j.has.1) (mul-pos W (down_pos d)))) in
-    let nonzero : eqb n 0 ≡ false = ne_eqb n 0 (λ (q : n ≡ 0). lt_irrefl 0 (subst (λ (k : ℕ). 0 < k) q some)) in
-    let rest : A % B * L ≡ nat_abs z % nat_abs w * C =
-    scaled_rest A B C (nat_abs z) (nat_abs w) L (mul-pos (down_pos e) (down_pos d)) (pow_pos (low f))
-    (over_first (m * up e) (down e) (down d) L (nat_abs z) i.has.1) (over_second (n * up d) (down e) (down d) L (nat_abs w) j.has.1) in
+    let D = n * up d * down e in
+    let some : 0 < n = first_pos n (up d) (first_pos (n * up d) L (subst (λ (k : ℕ). 0 < k) (sym w.1) (mul-pos B (down_pos d)))) in
+    let nonzero : eqb n 0 ≡ false = ne_eqb n 0 (λ (z : n ≡ 0). lt_irrefl 0 (subst (λ (k : ℕ). 0 < k) z some)) in
+    let rest : A % D * L ≡ a % b * C =
+    scaled_rest A D C a b L (mul-pos (down_pos e) (down_pos d)) (pow_pos (low f))
+    (over_first (m * up e) (down e) (down d) L a v.1) (over_second (n * up d) (down e) (down d) L b w.1) in
+    ap (λ (k : Bool). cond k nan (round f q (A % D) C)) nonzero
+    ∙ ap (λ (k : Bool). round f k (A % D) C) v.0
+    ∙ round_same f s (A % D) C (a % b) L (mul-pos (down_pos e) (down_pos d)) (pow_pos (low f)) rest
+
+rem-rounds : (f : Format) (x y : Float) (z w : ℤ) → Is f x z → Is f y w → 0 < nat_abs w → Rounds f (rem f x y) (rem_z z w)
+rem-rounds f x y z w i j W =
     rounds_of f i.sign (nat_abs z % nat_abs w) _ (rem_z z w)
-    (ap (λ (b : Bool). cond b nan (round f s (A % B) C)) nonzero
-    ∙ ap (λ (b : Bool). round f b (A % B) C) i.has.0
-    ∙ round_same f i.sign (A % B) C (nat_abs z % nat_abs w) L (mul-pos (down_pos e) (down_pos d)) (pow_pos (low f)) rest)
+    (rem_rounded f x y i.sign j.sign (nat_abs z) (nat_abs w) i.has j.has W)
     (sym (rem_z_signed i.sign (nat_abs z) w) ∙ ap (λ (v : ℤ). rem_z v w) i.signs)
+
+-- the remainder has the sign of x, and of its size what the size of y leaves over
+pub rem_has : (f : Format) (x y : Float) (s t : Bool) (a b : ℕ) → Rep (prec f) a → Rep (prec f) b → a < overflow f → HasValue x s a (2 ^ low f) → HasValue y t b (2 ^ low f) → 0 < b → HasValue (rem f x y) s (a % b) (2 ^ low f)
+rem_has f x y s t a b g h l v w B =
+    subst (λ (r : Float). HasValue r s (a % b) (2 ^ low f)) (sym (rem_rounded f x y s t a b v w B))
+    (round_kept f s (a % b) (rep_rest (prec f) a b B g h) (lt_of_le_of_lt (mod-le a b) l))
 
 pub rem_is : (f : Format) (x y : Float) (z w : ℤ) → T (fits f x) → T (fits f y) → Is f x z → Is f y w → 0 < nat_abs w → Is f (rem f x y) (rem_z z w)
 rem_is f x y z w F G i j W =

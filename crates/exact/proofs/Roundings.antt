@@ -53,6 +53,12 @@ rounds_is f x z r h =
       signs = ap (signed r.sign) size_is ∙ sym away;
     }
 
+-- a representable size in range is kept, and so is its sign
+pub round_kept : (f : Format) (s : Bool) (n : ℕ) → Rep (prec f) n → n < overflow f → HasValue (round f s n (2 ^ low f)) s n (2 ^ low f)
+round_kept f s n r l =
+    let kept : rounded (prec f) n ≡ n = rounded_exact (prec f) n (prec_pos f) r in
+    subst (λ (k : ℕ). HasValue (round f s n (2 ^ low f)) s k (2 ^ low f)) kept (round-has f s n (subst (λ (k : ℕ). k < overflow f) (sym kept) l))
+
 -- a representable bound on the exact value bounds the rounded one
 pub rounds_bounded : (f : Format) (x : Float) (z : ℤ) (b : ℕ) → Rounds f x z → Rep (prec f) b → b < overflow f → nat_abs z ≤ b → Is f x (rounded_z (prec f) z)
 rounds_bounded f x z b r g l h = rounds_is f x z r (lt_of_le_of_lt (rounded-high (prec f) b (nat_abs z) (prec_pos f) g h).0 l)

@@ -5,6 +5,7 @@ pub mod NearestRoots
 pub mod Roots
 pub mod AcceptedRoots
 pub mod Folds
+pub mod Rests
 pub mod Remainders
 pub mod ErrorFree
 mod Controls

@@ -4,4 +4,5 @@ pub mod Sums
 pub mod Polynomials
 pub mod Roots
 pub mod GuessedRoots
+pub mod Rests
 pub mod Remainders

@@ -8,10 +8,12 @@ ghost use Rattle.std.specs.Prelude.{◌≡◌, ◌<◌, false, T};
 ghost use Rattle.std.specs.Float.{binary64};
 ghost use Rattle.std.specs.Float.Ieee.Positive.{positive};
 ghost use Rattle.std.specs.Float as Floats;
+ghost use Rattle.floats.specs.Arithmetic.{◌⊛◌};
 ghost use Rattle.floats.specs.Choices.{larger_of, smaller_of, signed};
 ghost use Rattle.floats.specs.Sums as Sums;
 ghost use Rattle.floats.specs.Polynomials.{polynomial};
-ghost use Rattle.floats.specs.Roots.{NearestRoot, root_of_other};
+ghost use Rattle.floats.specs.Roots.{NearestRoot, root_of_other, units};
+ghost use Rattle.floats.specs.Rests.{Size};
 ghost use Rattle.floats.specs.Remainders.{ninety, folded_rest, folded_quotient, zero_signed, rest_by90, quotient_by90, NearestRemainder};
 
 use guesses::checked_root;
@@ -94,6 +96,43 @@ pub fn sqrt(x: f64) -> f64
     x.sqrt()
 }
 
+// What the size r leaves over after whole multiples of the size y. Each difference is exact: neither
+// term of one is more than twice the other. A multiple that is too far off is taken by way of 2 y.
+fn rest(r: f64, y: f64) -> f64
+    requires size { Size r }
+    requires divisor { Size y }
+    requires above { 0 < units binary64 y }
+    ensures { result ≡ r ⊛ y }
+{
+    if r < y {
+        return r;
+    }
+    let over = r - y;
+    if over < y {
+        return over.abs();
+    }
+    let twice = rest(r, y + y);
+    if twice < y { twice } else { (twice - y).abs() }
+}
+
+// The remainder of x by y, which is what `%` answers: x less a whole number of times y, cut to the
+// sign of x, exactly. It calls no function of the C library.
+pub fn rem(x: f64, y: f64) -> f64
+    ensures { result ≡ x ⊛ y }
+{
+    if !x.is_finite() || y.is_nan() {
+        return f64::NAN;
+    }
+    if y.is_infinite() {
+        return x;
+    }
+    if y == 0.0 {
+        return f64::NAN;
+    }
+    let size = rest(x.abs(), y.abs());
+    if x.is_sign_negative() { -size } else { size }
+}
+
 // An angle from 0 to 360 less the nearest multiple of 90, an even multiple where two are as near,
 // and that multiple modulo 4. Each difference is exact.
 fn folded(z: f64) -> (f64, u8)
@@ -132,7 +171,7 @@ pub fn remquo(x: f64) -> (f64, u8)
     if !x.is_finite() {
         return (f64::NAN, 0);
     }
-    let (size, quotient) = folded(x.abs() % 360.0);
+    let (size, quotient) = folded(rem(x.abs(), 360.0));
     if x.is_sign_negative() {
         (zero_signed(x, -size), (4 - quotient) % 4)
     } else {

@@ -2,7 +2,7 @@
 ghost use Rattle.std.specs.Prelude.{◌≡◌};
 ghost use Rattle.functions.specs.Circle.{within_turns, quarter_of, reduced_of, sine_near, cosine_near, sine_of, cosine_of};
 
-use floats::polyval;
+use floats::{polyval, rem};
 use std::f64::consts::PI;
 use std::num::saturating_f64_to_i64;
 
@@ -58,7 +58,11 @@ pub struct Reduced {
 fn within_turns(x: f64) -> f64
     ensures { result ≡ within_turns x }
 {
-    if x.abs() > 1024.0 { x % (2.0 * PI) } else { x }
+    if x.abs() > 1024.0 {
+        rem(x, 2.0 * PI)
+    } else {
+        x
+    }
 }
 
 // The quarter in which n quarter turns end.

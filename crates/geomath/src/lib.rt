@@ -7,6 +7,7 @@ ghost use Rattle.std.specs.Float.{float_is_finite};
 ghost use Rattle.geomath.specs.Exact.{Normalized, Difference};
 ghost use Rattle.geomath.specs.Angles.{square, ang_round, left_over, remainder_of, ang_normalize, lat_fix, ang_diff, ang_diff_error, accepts};
 
+use floats::rem;
 pub use floats::{polyval, sum};
 
 // The square of x.
@@ -42,7 +43,7 @@ fn left_over(x: f64, y: f64) -> f64
     if x == 0.0 {
         x
     } else if x.is_finite() {
-        x % y
+        rem(x, y)
     } else {
         f64::NAN
     }

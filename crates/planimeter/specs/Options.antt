@@ -30,17 +30,17 @@ awaited Shape = Next.Radius
 
 -- the WGS84 ellipsoid, counter-clockwise positive, with a sign
 abbrev pub usual : Options
-usual = record { ground = Ellipsoid wgs84_a wgs84_f; winding = CounterClockwise; signed = true }
+usual = record { surface = Ellipsoid wgs84_a wgs84_f; winding = CounterClockwise; signed = true }
 
 abbrev pub other_way : Winding → Winding
 other_way Clockwise = CounterClockwise
 other_way CounterClockwise = Clockwise
 
 abbrev pub switched : Options → Flag → Options
-switched o Reverse = record { ground = o.ground; winding = other_way o.winding; signed = o.signed }
-switched o Sign = record { ground = o.ground; winding = o.winding; signed = not o.signed }
+switched o Reverse = record { surface = o.surface; winding = other_way o.winding; signed = o.signed }
+switched o Sign = record { surface = o.surface; winding = o.winding; signed = not o.signed }
 switched o Scale = o
 switched o Shape = o
 
 abbrev pub drawn_on : Options → Ground → Options
-drawn_on o ground = record { ground = ground; winding = o.winding; signed = o.signed }
+drawn_on o surface = record { surface = surface; winding = o.winding; signed = o.signed }

@@ -127,7 +127,7 @@ fn run(rt: &HostRuntime) -> anyhow::Result<()> {
     let options = read_options(rt)?;
     let mut text = String::new(rt.alloc());
     rt.stdin().read_to_string(&mut text)?;
-    match options.ground {
+    match options.surface {
         Ground::Ellipsoid(a, f) => match Geodesic::new(SeriesSet, a, f) {
             Ok(geodesic) => measure(rt, geodesic, options, text.as_str()),
             Err(refusal) => refuse(rt, refusal),

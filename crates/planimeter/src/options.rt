@@ -63,7 +63,7 @@ impl Flag {
 
 #[derive(Clone, Copy)]
 pub struct Options {
-    pub ground: Ground,
+    pub surface: Ground,
     pub winding: Winding,
     pub signed: bool,
 }
@@ -74,7 +74,7 @@ impl Options {
         ensures { result ≡ usual }
     {
         Options {
-            ground: Ground::Ellipsoid(6378137.0, 0.0033528106647474805),
+            surface: Ground::Ellipsoid(6378137.0, 0.0033528106647474805),
             winding: Winding::CounterClockwise,
             signed: true,
         }
@@ -100,9 +100,9 @@ impl Options {
         }
     }
 
-    pub fn drawn_on(self, ground: Ground) -> Options
-        ensures { result ≡ drawn_on self ground }
+    pub fn drawn_on(self, surface: Ground) -> Options
+        ensures { result ≡ drawn_on self surface }
     {
-        Options { ground, ..self }
+        Options { surface, ..self }
     }
 }

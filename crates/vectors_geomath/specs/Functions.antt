@@ -9,8 +9,8 @@ use Rattle.series.specs.Eccentric as Eccentric
 use Rattle.series.specs.Clenshaw.{sin_cos_series}
 use Rattle.series.specs.Astroid as Astroid
 use Rattle.series.specs.Expansions as Expansions
-use Rattle.vectors_geomath.specs.declared.functions.Function.{Function}
-use Rattle.vectors_geomath.specs.declared.functions.Function.TheVariants.{Sincosd, Atan2d, Norm, Eatanhe, Astroid, SinCosSeries, A1m1f, A2m1f, C1f12, C1f34, C1f56, C2f12, C2f34, C2f56}
+use Rattle.vectors_geomath.specs.declared.named.Function.{Function}
+use Rattle.vectors_geomath.specs.declared.named.Function.TheVariants.{Sincosd, Atan2d, Norm, Eatanhe, Astroid, SinCosSeries, A1m1f, A2m1f, C1f12, C1f34, C1f56, C2f12, C2f34, C2f56}
 
 abbrev pub lone : Float → Float × Float
 lone x = (x, bits 0)

@@ -2,9 +2,9 @@
 // the series set and its list.
 #![tactic(auto)]
 
-mod functions;
+mod named;
 
-use functions::Function;
+use named::Function;
 use replay::compare;
 use std::{env, fs};
 

@@ -2,8 +2,8 @@
 use Rattle.std.specs.Prelude.{◌≡◌, ℕ, List, codes, Option, MatchOption, ◌≢◌, Float}
 use Rattle.floats.specs.Arithmetic.{bits}
 use Rattle.functions.specs.Series.{series}
-use Rattle.vectors_series.specs.declared.functions.Function.{Function}
-use Rattle.vectors_series.specs.declared.functions.Function.TheVariants.{Sin, Cos, Atan2, Atan, Atanh, Hypot, Cbrt}
+use Rattle.vectors_series.specs.declared.named.Function.{Function}
+use Rattle.vectors_series.specs.declared.named.Function.TheVariants.{Sin, Cos, Atan2, Atan, Atanh, Hypot, Cbrt}
 
 abbrev pub answer_of : Function → Float → Float → Float
 answer_of Sin x y = series.sin_of x

@@ -2,9 +2,9 @@
 // set and its list.
 #![tactic(auto)]
 
-mod functions;
+mod named;
 
-use functions::Function;
+use named::Function;
 use replay::compare;
 use std::{env, fs};
 

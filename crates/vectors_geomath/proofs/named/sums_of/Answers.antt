@@ -5,7 +5,7 @@ use Rattle.functions.specs.Series.{series}
 use Rattle.series.specs.Clenshaw.{sin_cos_series}
 use Rattle.series.specs.Degrees.{sind, cosd}
 use Rattle.series.specs.Expansions.{C1f, coefficients}
-use Rattle.vectors_geomath.proofs.functions.sums_of.Goals as goal
+use Rattle.vectors_geomath.proofs.named.sums_of.Goals as goal
 
 six_left : (eps : Float) → take 6 (drop 1 (C1f eps)) ≡ drop 1 (C1f eps)
 unfolding C1f coefficients
