@@ -9,7 +9,6 @@ ghost use Rattle.geodesic.specs.Shapes.{accepts_shape, shape_refusal};
 ghost use Rattle.inverse.specs.Inverse as Definitions;
 ghost use Rattle.ellipsoid.specs.Capabilities.{polygon_area};
 ghost use Rattle.inverse.proofs.Evaluations.{inverse_few};
-ghost use Rattle.std.proofs.Common.{rules, arith};
 
 use crate::model::Geodesic;
 use ellipsoid::capability::POLYGONAREA_MASK;
@@ -114,7 +113,7 @@ impl<F: FunctionSet> Surface for Geodesic<F> {
 
     ghost whole = { λ s. whole_of s.shape };
 
-    ghost fits = { first_of (Prim.search rules, Prim.grind (arith, Self.row.coded.inj)) };
+    ghost fits = { λ s. s.fits };
 
     ghost few = { unfold edge_of in λ s lat1 lon1 lat2 lon2. inverse_few (F.FunctionSet.funcs s.set) s.shape polygon_area lat1 lon1 lat2 lon2 };
 

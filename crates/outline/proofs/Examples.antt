@@ -7,9 +7,9 @@ use Rattle.std.specs.Float as Floats
 use Rattle.polygon.proofs.Examples.{examples}
 use Rattle.outline.specs.Examples.{OneRecord, AllExamples}
 
-one_record_lem : OneRecord
+row_of_one : OneRecord
 unfolding Floats.float_is_finite of_int of_bits of_fields neg round units size span climb lt le eq Ieee.odd count_trailing_zeros
-one_record_lem = record { second_take_back = refl; number = refl; stands = refl }
+row_of_one = record { second_take_back = refl; number = refl; stands = refl }
 
 pub all_examples : AllExamples
-all_examples = record { polygons = examples; one_record_lem = one_record_lem }
+all_examples = record { polygons = examples; row_of_one = row_of_one }

@@ -26,4 +26,4 @@ pub record OneRecord : Type 0 where
 
 pub record AllExamples : Type 0 where
   pub polygons : Examples
-  pub one_record_lem : OneRecord
+  pub row_of_one : OneRecord

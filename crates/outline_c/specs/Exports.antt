@@ -99,10 +99,10 @@ module _ (k : KeptOutline) (stations : List Station) (edits : List EditRecord) (
   take_back_left = left_by (kept_fault k) (take_back_of (edges_of k.surface k.scale) (frame_of k) stations edits)
 
 -- everything is as it was
-pub record Stayed (k k-after : KeptOutline) (row row-after : List Station) (records records_after_lem : List EditRecord) (spent spent-after : Cost) : Type 0 where
+pub record Stayed (k k-after : KeptOutline) (row row-after : List Station) (records records-after : List EditRecord) (spent spent-after : Cost) : Type 0 where
   pub kept : k-after ≡ k
   pub stations : row-after ≡ row
-  pub edits : records_after_lem ≡ records
+  pub edits : records-after ≡ records
   pub cost : spent-after ≡ spent
 
 -- ---- figures

@@ -3,7 +3,6 @@ ghost use Rattle.std.specs.Prelude.{◌≡◌, true, Some, None, MatchResult};
 ghost use Rattle.surface.specs.Plates.{plate_area, plate_edge, plate_refusal};
 ghost use Rattle.surface.specs.Wholes.{whole_fits};
 ghost use Rattle.std.proofs.Math.Dec.{lit≤};
-ghost use Rattle.std.proofs.Common.{rules, arith};
 
 use crate::{Edge, Refusal, Surface, whole_fits};
 use floats::sqrt;
@@ -40,7 +39,7 @@ impl Surface for Plate {
 
     ghost whole = { λ s. plate_area s.scale };
 
-    ghost fits = { first_of (Prim.search rules, Prim.grind (arith, Self.row.coded.inj)) };
+    ghost fits = { λ s. s.fits };
 
     ghost few = { unfold plate_edge in λ s lat1 lon1 lat2 lon2. lit≤ tt };
 
