@@ -1,10 +1,10 @@
 -- What a size leaves over after whole multiples of another is exact: each difference is of two sizes of which the larger is at most twice the smaller. It is what `%` answers.
-use Rattle.std.proofs.Common.{◌≡◌, ℕ, zero, suc, ◌+◌, ◌-◌, ◌*◌, ◌/◌, ◌%◌, ◌^◌, ◌<◌, ◌≤◌, Bool, true, false, cond, T, ltb, ◌⊎◌, ℤ, pos, ◌+ℤ◌, ◌-ℤ◌, nat_abs, sym, refl, ap, ◌∙◌, subst, inl, inr, not, true≢false, lt_irrefl, zero-mul, mul-pos, zero-lt-suc, pow_pos, mod-lt, div-add-mod', lt_of_le_of_lt, arith, ltb-true, ltb-false}
+use Rattle.std.proofs.Common.{◌≡◌, ℕ, zero, suc, ◌+◌, ◌-◌, ◌*◌, ◌/◌, ◌%◌, ◌^◌, ◌<◌, ◌≤◌, Bool, true, false, T, ltb, leb, ℤ, pos, ◌-ℤ◌, nat_abs, sym, refl, ap, ◌∙◌, subst, inl, inr, not, true≢false, mul_comm, mul_assoc, lt_irrefl, zero-mul, mul-pos, zero-lt-suc, pow_pos, mod-lt, div-add-mod', lt_of_le_of_lt, lt_of_lt_of_le, pow-suc, arith, ltb-true, ltb-false, leb-true, le-leb}
 use Rattle.std.proofs.Math.Nat.{add-mul-mod_self_left, mod-eq_of_lt}
 use Rattle.std.proofs.lemmas.Int.{ints}
-use lib.Ieee.{Float, Format, nan, inf, fin, binary64, prec, low, up, down, fits, is_nan, neg, add, sub, rem, lt, eq, of_bits}
+use lib.Ieee.{Float, Format, nan, inf, fin, binary64, prec, low, up, down, fits, is_nan, neg, add, sub, div, rem, lt, le, eq, of_bits}
 use lib.Ieee.Exact.{HasValue}
-use lib.Ieee.Fits.{up_pos, add-fits, sub-fits, rem-fits, neg-fits}
+use lib.Ieee.Fits.{up_pos, add-fits, sub-fits, div-fits, rem-fits, neg-fits}
 use lib.Ieee.Scale.{overflow}
 use Rattle.std.specs.Float.{float_zero, float_is_finite, float_is_infinite, is_sign_negative, float_with_sign}
 use Rattle.exact.specs.Rounded.{Rep, rounded, rounded_z}
@@ -15,36 +15,27 @@ use Rattle.exact.proofs.Unique.{same_sized}
 use Rattle.exact.proofs.Sums.{add_rounds, sub-rounds}
 use Rattle.exact.proofs.Roundings.{rounds_exact, rounds_is, prec_pos}
 use Rattle.exact.proofs.Sterbenz.{sterbenz}
-use Rattle.exact.proofs.Orders.{lt_is, eq_is, eq_z_true, eq_z_false}
+use Rattle.exact.proofs.Halves.{half_is}
+use Rattle.exact.proofs.Orders.{lt_is, le_is, eq_is, eq_z_true, eq_z_false}
 use Rattle.exact.proofs.Remainders.{rem_has}
 use Rattle.floats.specs.Roots.{units}
-use Rattle.floats.specs.Rests.{Size}
+use Rattle.floats.specs.Rests.{Size, IsPowerMultiple}
 use Rattle.floats.proofs.Roots.{plain_value}
 use Rattle.floats.proofs.Roots as Roots
 
--- ---- on natural numbers: a less multiples of b, from a less multiples of twice b
-less_multiples : (a b k r : ℕ) → a ≡ r + b * k → r < b → a % b ≡ r
-less_multiples a b k r e l = ap (λ (n : ℕ). n % b) e ∙ add-mul-mod_self_left r b k ∙ mod-eq_of_lt l
-
-kept_small : (a b q s : ℕ) → q * (b + b) + s ≡ a → a ≡ s + b * (q + q)
-kept_small a b q s e = omega arith
-
-once_more : (a b q s : ℕ) → q * (b + b) + s ≡ a → b ≤ s → a ≡ s - b + b * (q + q + 1)
-once_more a b q s e l = omega arith
-
-rest_small : (a b : ℕ) → a % (b + b) < b → a % b ≡ a % (b + b)
-rest_small a b l = less_multiples a b (a / (b + b) + a / (b + b)) (a % (b + b)) (kept_small a b (a / (b + b)) (a % (b + b)) (div-add-mod' a (b + b))) l
-
-one_less : (b s : ℕ) → b ≤ s → s < b + b → s - b < b
-one_less b s h l = omega arith
-
-rest_large : (a b : ℕ) → 0 < b → b ≤ a % (b + b) → a % b ≡ a % (b + b) - b
-rest_large a b B h =
-    let some : 0 < b + b = omega arith in
-    less_multiples a b (a / (b + b) + a / (b + b) + 1) (a % (b + b) - b) (once_more a b (a / (b + b)) (a % (b + b)) (div-add-mod' a (b + b)) h) (one_less b (a % (b + b)) h (mod-lt a some))
+-- ---- on natural numbers
+-- a number less a multiple of b leaves over the same
+rest_of_multiple : (a b c : ℕ) → (k : ℕ) → c ≡ b * k → a % c % b ≡ a % b
+rest_of_multiple a b c k e = sym (ap (λ (n : ℕ). n % b) (parts a b k (a / c) (a % c) (ap (λ (m : ℕ). a / c * m + a % c) (sym e) ∙ div-add-mod' a c)) ∙ add-mul-mod_self_left (a % c) b (k * (a / c)))
+  where
+    parts : (a b k q s : ℕ) → q * (b * k) + s ≡ a → a ≡ s + b * (k * q)
+    parts a b k q s e = omega (arith, mul_comm q (b * k), mul_assoc b k q)
 
 rest_once : (a b : ℕ) → b ≤ a → a < b + b → a % b ≡ a - b
-rest_once a b h l = less_multiples a b 1 (a - b) (omega arith) (omega arith)
+rest_once a b h l = ap (λ (n : ℕ). n % b) (taken a b h) ∙ add-mul-mod_self_left (a - b) b 1 ∙ mod-eq_of_lt (omega arith)
+  where
+    taken : (a b : ℕ) → b ≤ a → a ≡ a - b + b * 1
+    taken a b h = omega arith
 
 -- ---- x is a units in size, and its sign is plus
 pub record Sized (f : Format) (x : Float) (a : ℕ) : Type 0 where
@@ -104,43 +95,33 @@ module _ (f : Format) where
     pub difference_sized : a ≤ b + b → Sized f (float_with_sign false (sub f r y)) (a - b)
     difference_sized g = let i = difference_is g in plus_sized (sub f r y) (a - b) i.sign (sub-fits f r y) i.has
 
-    far : b + b ≤ a → lt (sub f r y) y ≡ false
+    far : b + b ≤ a → le y (sub f r y) ≡ true
     unfolding rounded_z
     far g =
         let p = prec f in
         let most : rounded p (a - b) ≤ a = (rounded-high p a (a - b) (prec_pos f) (sized_rep r a s) (omega arith)).0 in
         let i = rounds_is f (sub f r y) (pos (a - b)) difference_rounds (lt_of_le_of_lt most (sized_below r a s)) in
         let least : b ≤ rounded p (a - b) = (rounded-low p b (a - b) (prec_pos f) (sized_rep y b t) (omega arith)).0 in
-        lt_is f (sub f r y) y (pos (rounded p (a - b))) (pos b) i (sized_is y b t) ∙ not_below (rounded p (a - b)) b least
+        le_is f y (sub f r y) (pos b) (pos (rounded p (a - b))) (sized_is y b t) i ∙ le-leb b (rounded p (a - b)) least
+
+    near : a < b + b → le y (sub f r y) ≡ false
+    near g = le_is f y (sub f r y) (pos b) (pos (a - b)) (sized_is y b t) (difference_is (omega arith)) ∙ lt-leb_false b (a - b) (omega arith)
       where
-        not_below : (m n : ℕ) → n ≤ m → ltb m n ≡ false
-        not_below m n l = go (ltb m n) refl
+        lt-leb_false : (m n : ℕ) → n < m → leb m n ≡ false
+        lt-leb_false m n l = go (leb m n) refl
           where
-            clash : m < n → ⊥
+            clash : m ≤ n → ⊥
             clash k = omega arith
 
-            go : (w : Bool) → ltb m n ≡ w → ltb m n ≡ false
-            go true e = absurd (clash (ltb-true m n e))
+            go : (w : Bool) → leb m n ≡ w → leb m n ≡ false
+            go true e = absurd (clash (leb-true m n e))
             go false e = e
 
-    near : a < b + b → lt (sub f r y) y ≡ true
-    near g = lt_is f (sub f r y) y (pos (a - b)) (pos b) (difference_is (omega arith)) (sized_is y b t) ∙ below (a - b) b (omega arith)
-      where
-        below : (m n : ℕ) → m < n → ltb m n ≡ true
-        below m n l = go (ltb m n) refl
-          where
-            clash : n ≤ m → ⊥
-            clash k = omega arith
+    pub at_most_twice : le y (sub f r y) ≡ false → a < b + b
+    at_most_twice e = elim (le_or_lt (b + b) a) [ inl g ↦ absurd (true≢false (sym (far g) ∙ e)) | inr g ↦ g ]
 
-            go : (w : Bool) → ltb m n ≡ w → ltb m n ≡ true
-            go true e = e
-            go false e = absurd (clash (ltb-false m n e))
-
-    pub at_most_twice : lt (sub f r y) y ≡ true → a < b + b
-    at_most_twice e = elim (le_or_lt (b + b) a) [ inl g ↦ absurd (true≢false (sym e ∙ far g)) | inr g ↦ g ]
-
-    pub at_least_twice : lt (sub f r y) y ≡ false → b + b ≤ a
-    at_least_twice e = elim (le_or_lt (b + b) a) [ inl g ↦ g | inr g ↦ absurd (true≢false (sym (near g) ∙ e)) ]
+    pub at_least_twice : le y (sub f r y) ≡ true → b + b ≤ a
+    at_least_twice e = elim (le_or_lt (b + b) a) [ inl g ↦ g | inr g ↦ absurd (true≢false (sym e ∙ near g)) ]
 
   -- ---- twice a size
   plus_sign : (s : Bool) (n : ℕ) → 0 < n → signed s n ≡ pos n → s ≡ false
@@ -158,49 +139,15 @@ module _ (f : Format) where
       let i = rounds_exact f (add f y y) (pos (b + b)) (add_rounds f y y (pos b) (pos b) (sized_is y b t) (sized_is y b t)) (doubled_rep b (sized_rep y b t)) l in
       record { held = add-fits f y y; has = subst (λ (s : Bool). HasValue (add f y y) s (b + b) (2 ^ low f)) (plus_sign i.sign (b + b) (omega arith) i.signs) i.has }
 
-  -- ---- the answers
-  module _ (r y : Float) (a b : ℕ) (B : 0 < b) (s : Sized f r a) (t : Sized f y b) where
-    pub rest_of_less : lt r y ≡ true → r ≡ rem f r y
-    rest_of_less e = same r (rem f r y) a (a % b) (sym (mod-eq_of_lt (ltb-true a b (sym (lt_sized r y a b s t) ∙ e)))) s (rem_sized r y a b B s t)
-
-    pub reaches : lt r y ≡ false → b ≤ a
-    reaches e = ltb-false a b (sym (lt_sized r y a b s t) ∙ e)
-
-    pub rest_of_near : b ≤ a → lt (sub f r y) y ≡ true → float_with_sign false (sub f r y) ≡ rem f r y
-    rest_of_near h e =
-        let l = at_most_twice r y a b s t h e in
-        same (float_with_sign false (sub f r y)) (rem f r y) (a - b) (a % b) (sym (rest_once a b h l)) (difference_sized r y a b s t h (omega arith)) (rem_sized r y a b B s t)
-
-    module _ (l : b + b < overflow f) where
-      some : 0 < b + b
-      some = omega arith
-
-      twice_rest : Sized f (rem f r (add f y y)) (a % (b + b))
-      twice_rest = rem_sized r (add f y y) a (b + b) some s (doubled_sized y b B l t)
-
-      pub rest_by_twice : lt (rem f r (add f y y)) y ≡ true → rem f r (add f y y) ≡ rem f r y
-      rest_by_twice e =
-          let small : a % (b + b) < b = ltb-true (a % (b + b)) b (sym (lt_sized (rem f r (add f y y)) y (a % (b + b)) b twice_rest t) ∙ e) in
-          same (rem f r (add f y y)) (rem f r y) (a % (b + b)) (a % b) (sym (rest_small a b small)) twice_rest (rem_sized r y a b B s t)
-
-      pub rest_by_one_more : lt (rem f r (add f y y)) y ≡ false → float_with_sign false (sub f (rem f r (add f y y)) y) ≡ rem f r y
-      rest_by_one_more e =
-          let large : b ≤ a % (b + b) = ltb-false (a % (b + b)) b (sym (lt_sized (rem f r (add f y y)) y (a % (b + b)) b twice_rest t) ∙ e) in
-          let within : a % (b + b) < b + b = mod-lt a some in
-          same (float_with_sign false (sub f (rem f r (add f y y)) y)) (rem f r y) (a % (b + b) - b) (a % b) (sym (rest_large a b B large))
-          (difference_sized (rem f r (add f y y)) y (a % (b + b)) b twice_rest t large (omega arith)) (rem_sized r y a b B s t)
-
 -- ---- of sizes in binary64
-pub of_size : (x : Float) → fits binary64 x ≡ true → Size x → Sized binary64 x (units binary64 x)
-of_size x F h =
-    let held : T (fits binary64 x) = subst T (sym F) tt in
-    record { held = held; has = plain_value binary64 x held (subst T (sym h.0) tt) h.1 }
+pub of_size : (x : Float) → Size x → Sized binary64 x (units binary64 x)
+of_size x s = record { held = s.held; has = s.has }
 
-pub size_of : (x : Float) (a : ℕ) → HasValue x false a (2 ^ low binary64) → Size x
-unfolding float_is_finite is_sign_negative
-size_of nan a v = absurd v
-size_of (inf t) a v = absurd v
-size_of (fin t m e) a v = (refl, v.0)
+pub counted : (x : Float) (a : ℕ) → Sized binary64 x a → units binary64 x ≡ a
+counted x a s = Roots.units_of binary64 x a s.has
+
+pub size_of : (x : Float) (a : ℕ) → Sized binary64 x a → Size x
+size_of x a s = record { held = s.held; has = subst (λ (k : ℕ). HasValue x false k (2 ^ low binary64)) (sym (counted x a s)) s.has }
 
 -- ---- the cases with no whole multiple
 pub not_finite_rest : (x y : Float) → float_is_finite x ≡ false → of_bits binary64 0x7ff8000000000000 ≡ rem binary64 x y
@@ -280,10 +227,10 @@ pub abs_sized : (x : Float) → fits binary64 x ≡ true → float_is_finite x �
 abs_sized x F h = let held : T (fits binary64 x) = subst T (sym F) tt in plus_sized binary64 x (units binary64 x) (is_sign_negative x) held (finite_has x held h)
 
 pub abs_size : (x : Float) → fits binary64 x ≡ true → float_is_finite x ≡ true → Size (float_with_sign false x)
-abs_size x F h = size_of (float_with_sign false x) (units binary64 x) (abs_sized x F h).has
+abs_size x F h = size_of (float_with_sign false x) (units binary64 x) (abs_sized x F h)
 
 pub abs_units : (x : Float) → fits binary64 x ≡ true → float_is_finite x ≡ true → units binary64 (float_with_sign false x) ≡ units binary64 x
-abs_units x F h = Roots.units_of binary64 (float_with_sign false x) (units binary64 x) (abs_sized x F h).has
+abs_units x F h = counted (float_with_sign false x) (units binary64 x) (abs_sized x F h)
 
 neg_has : (x : Float) (a : ℕ) → HasValue x false a (2 ^ low binary64) → HasValue (neg x) true a (2 ^ low binary64)
 unfolding neg
@@ -326,51 +273,135 @@ module _ (x y : Float) (F : fits binary64 x ≡ true) (G : fits binary64 y ≡ t
       (neg_has (rem binary64 (float_with_sign false x) (float_with_sign false y)) (a % b) whole_rest.has)
       (subst (λ (q : Bool). HasValue (rem binary64 x y) q (a % b) (2 ^ low binary64)) p signed_rest)
 
--- ---- of two sizes
-module _ (r y : Float) (F : fits binary64 r ≡ true) (G : fits binary64 y ≡ true) (h : Size r) (g : Size y) (B : 0 < units binary64 y) where
-  pub less_rest : lt r y ≡ true → r ≡ rem binary64 r y
-  less_rest e = rest_of_less binary64 r y _ _ B (of_size r F h) (of_size y G g) e
+-- ---- steps of the division
+-- the size t doubled, while twice of it is at most r
+module _ (r t : Float) (s : Size r) (u : Size t) (B : 0 < units binary64 t) (h : units binary64 t ≤ units binary64 r) where
+  pub within_twice : le t (sub binary64 r t) ≡ false → units binary64 r < units binary64 t + units binary64 t
+  within_twice e = at_most_twice binary64 r t _ _ (of_size r s) (of_size t u) h e
 
-  module _ (n : lt r y ≡ false) where
-    reached : units binary64 y ≤ units binary64 r
-    reached = reaches binary64 r y _ _ B (of_size r F h) (of_size y G g) n
+  module _ (e : le t (sub binary64 r t) ≡ true) where
+    pub twice_reached : units binary64 t + units binary64 t ≤ units binary64 r
+    twice_reached = at_least_twice binary64 r t _ _ (of_size r s) (of_size t u) h e
 
-    pub near_rest : lt (sub binary64 r y) y ≡ true → float_with_sign false (sub binary64 r y) ≡ rem binary64 r y
-    near_rest e = rest_of_near binary64 r y _ _ B (of_size r F h) (of_size y G g) reached e
+    twice_sized : Sized binary64 (add binary64 t t) (units binary64 t + units binary64 t)
+    twice_sized = doubled_sized binary64 t _ B (lt_of_le_of_lt twice_reached (sized_below binary64 r _ (of_size r s))) (of_size t u)
 
-    module _ (m : lt (sub binary64 r y) y ≡ false) where
-      twice_reached : units binary64 y + units binary64 y ≤ units binary64 r
-      twice_reached = at_least_twice binary64 r y _ _ (of_size r F h) (of_size y G g) reached m
+    pub twice_size : Size (add binary64 t t)
+    twice_size = size_of (add binary64 t t) _ twice_sized
 
-      twice_below : units binary64 y + units binary64 y < overflow binary64
-      twice_below = lt_of_le_of_lt twice_reached (sized_below binary64 r _ (of_size r F h))
+    pub twice_units : units binary64 (add binary64 t t) ≡ units binary64 t + units binary64 t
+    twice_units = counted (add binary64 t t) _ twice_sized
 
-      twice_sized : Sized binary64 (add binary64 y y) (units binary64 y + units binary64 y)
-      twice_sized = doubled_sized binary64 y _ B twice_below (of_size y G g)
+-- the size t halved, where it is a multiple of y by a power of two, and more than y
+two_pattern : fin false 1 (pos 1) ≡ of_bits binary64 0x4000000000000000
+unfolding of_bits
+two_pattern = refl
 
-      pub twice_size : Size (add binary64 y y)
-      twice_size = size_of (add binary64 y y) _ twice_sized.has
+module _ (t : Float) (u : Size t) (h : ℕ) (e : units binary64 t ≡ h + h) (B : 0 < h) where
+  half_sized : Sized binary64 (div binary64 t (of_bits binary64 0x4000000000000000)) h
+  half_sized =
+      let i = half_is binary64 t (pos h) u.held (record { sign = false; has = subst (λ (k : ℕ). HasValue t false k (2 ^ low binary64)) e u.has; signs = refl }) in
+      subst (λ (w : Float). Sized binary64 (div binary64 t w) h) two_pattern
+      (record { held = div-fits binary64 t (fin false 1 (pos 1)); has = subst (λ (s : Bool). HasValue (div binary64 t (fin false 1 (pos 1))) s h (2 ^ low binary64)) (plus_sign binary64 i.sign h B i.signs) i.has })
 
-      twice_units : units binary64 (add binary64 y y) ≡ units binary64 y + units binary64 y
-      twice_units = Roots.units_of binary64 (add binary64 y y) _ twice_sized.has
+  pub half_size : Size (div binary64 t (of_bits binary64 0x4000000000000000))
+  half_size = size_of _ h half_sized
 
-      pub twice_above : 0 < units binary64 (add binary64 y y)
-      twice_above = subst (λ (k : ℕ). 0 < k) (sym twice_units) (above (units binary64 y) B)
-        where
-          above : (b : ℕ) → 0 < b → 0 < b + b
-          above b l = omega arith
+  pub half_units : units binary64 (div binary64 t (of_bits binary64 0x4000000000000000)) ≡ h
+  half_units = counted _ h half_sized
 
-      pub twice_nearer : units binary64 r - units binary64 (add binary64 y y) < units binary64 r - units binary64 y
-      twice_nearer = subst (λ (k : ℕ). units binary64 r - k < units binary64 r - units binary64 y) (sym twice_units) (nearer (units binary64 r) (units binary64 y) B twice_reached)
-        where
-          nearer : (a b : ℕ) → 0 < b → b + b ≤ a → a - (b + b) < a - b
-          nearer a b l k = omega arith
+-- a size below twice t, lessened by t where it reaches it
+module _ (r t : Float) (s : Size r) (u : Size t) (l : units binary64 r < units binary64 t + units binary64 t) where
+  tested : lt r t ≡ ltb (units binary64 r) (units binary64 t)
+  tested = lt_sized binary64 r t _ _ (of_size r s) (of_size t u)
 
-      module _ (q : Float) (is : q ≡ rem binary64 r (add binary64 y y)) where
-        pub kept_rest : lt q y ≡ true → q ≡ rem binary64 r y
-        kept_rest e = is ∙ rest_by_twice binary64 r y _ _ B (of_size r F h) (of_size y G g) twice_below (ap (λ (v : Float). lt v y) (sym is) ∙ e)
+  pub kept_units : lt r t ≡ true → units binary64 r ≡ units binary64 r % units binary64 t
+  kept_units e = sym (mod-eq_of_lt (ltb-true _ _ (sym tested ∙ e)))
 
-        pub lessened_rest : lt q y ≡ false → float_with_sign false (sub binary64 q y) ≡ rem binary64 r y
-        lessened_rest e =
-            ap (λ (v : Float). float_with_sign false (sub binary64 v y)) is
-            ∙ rest_by_one_more binary64 r y _ _ B (of_size r F h) (of_size y G g) twice_below (ap (λ (v : Float). lt v y) (sym is) ∙ e)
+  module _ (e : lt r t ≡ false) where
+    reached : units binary64 t ≤ units binary64 r
+    reached = ltb-false _ _ (sym tested ∙ e)
+
+    lessened_sized : Sized binary64 (float_with_sign false (sub binary64 r t)) (units binary64 r - units binary64 t)
+    lessened_sized = difference_sized binary64 r t _ _ (of_size r s) (of_size t u) reached (omega arith)
+
+    pub lessened_size : Size (float_with_sign false (sub binary64 r t))
+    lessened_size = size_of _ _ lessened_sized
+
+    pub lessened_units : units binary64 (float_with_sign false (sub binary64 r t)) ≡ units binary64 r % units binary64 t
+    lessened_units = counted _ _ lessened_sized ∙ sym (rest_once _ _ reached l)
+
+-- ---- what is left below y is the rest
+pub less_test : (r y : Float) → Size r → Size y → (b : Bool) → lt r y ≡ b → ltb (units binary64 r) (units binary64 y) ≡ b
+less_test r y s u b e = sym (lt_sized binary64 r y _ _ (of_size r s) (of_size y u)) ∙ e
+
+pub rest_is : (q r y : Float) → Size q → Size r → Size y → 0 < units binary64 y → units binary64 q ≡ units binary64 r % units binary64 y → q ≡ rem binary64 r y
+rest_is q r y s t u B e = same binary64 q (rem binary64 r y) _ _ e (of_size q s) (rem_sized binary64 r y _ _ B (of_size r t) (of_size y u))
+
+-- ---- multiples by powers of two
+pub power_pos : (b n : ℕ) → IsPowerMultiple b n → 0 < b → 0 < n
+power_pos b n m B = subst (λ (k : ℕ). 0 < k) (sym m.is) (mul-pos B (pow_pos m.power))
+
+pub power_once : (b : ℕ) → IsPowerMultiple b b
+power_once b = record { power = 0; is = omega arith }
+
+pub power_twice : (b n : ℕ) → IsPowerMultiple b n → IsPowerMultiple b (n + n)
+power_twice b n m = record { power = suc m.power; is = twice b n (2 ^ m.power) m.is ∙ sym (ap (λ (k : ℕ). b * k) (pow-suc 2 m.power)) }
+  where
+    twice : (b n k : ℕ) → n ≡ b * k → n + n ≡ b * (k * 2)
+    twice b n k e = omega (arith, mul_assoc b k 2)
+
+-- a multiple above b is twice another
+pub record Halved (b n : ℕ) : Type 0 where
+  pub half : ℕ
+  pub twice : n ≡ half + half
+  pub multiple : IsPowerMultiple b half
+
+pub power_half : (b n : ℕ) → IsPowerMultiple b n → b < n → Halved b n
+power_half b n m l = go m.power m.is
+  where
+    none : (b n : ℕ) → n ≡ b * 2 ^ 0 → b < n → ⊥
+    none b n e l = omega arith
+
+    twice : (b n k : ℕ) → n ≡ b * (k * 2) → n ≡ b * k + b * k
+    twice b n k e = omega (arith, mul_assoc b k 2)
+
+    go : (p : ℕ) → n ≡ b * 2 ^ p → Halved b n
+    go zero e = absurd (none b n e l)
+    go (suc p) e = record { half = b * 2 ^ p; twice = twice b n (2 ^ p) (e ∙ ap (λ (k : ℕ). b * k) (pow-suc 2 p)); multiple = record { power = p; is = refl } }
+
+-- ---- a turn of the division: t halved, and what is left less it
+module _ (y t left : Float) (s : Size t) (m : IsPowerMultiple (units binary64 y) (units binary64 t)) (B : 0 < units binary64 y) (e : lt y t ≡ true) (w : Size y) (low_left : units binary64 left < units binary64 t) where
+  halved : Halved (units binary64 y) (units binary64 t)
+  halved = power_half _ _ m (ltb-true _ _ (sym (lt_sized binary64 y t _ _ (of_size y w) (of_size t s)) ∙ e))
+
+  some_half : 0 < halved.half
+  some_half = power_pos _ _ halved.multiple B
+
+  pub turn_size : Size (div binary64 t (of_bits binary64 0x4000000000000000))
+  turn_size = half_size t s halved.half halved.twice some_half
+
+  turn_units : units binary64 (div binary64 t (of_bits binary64 0x4000000000000000)) ≡ halved.half
+  turn_units = half_units t s halved.half halved.twice some_half
+
+  pub turn_multiple : IsPowerMultiple (units binary64 y) (units binary64 (div binary64 t (of_bits binary64 0x4000000000000000)))
+  turn_multiple = subst (IsPowerMultiple (units binary64 y)) (sym turn_units) halved.multiple
+
+  pub turn_near : units binary64 left < units binary64 (div binary64 t (of_bits binary64 0x4000000000000000)) + units binary64 (div binary64 t (of_bits binary64 0x4000000000000000))
+  turn_near = subst (λ (k : ℕ). units binary64 left < k + k) (sym turn_units) (subst (λ (k : ℕ). units binary64 left < k) halved.twice low_left)
+
+  pub turn_smaller : units binary64 (div binary64 t (of_bits binary64 0x4000000000000000)) < units binary64 t
+  turn_smaller = subst (λ (k : ℕ). k < units binary64 t) (sym turn_units) (subst (λ (k : ℕ). halved.half < k) (sym halved.twice) (less halved.half some_half))
+    where
+      less : (k : ℕ) → 0 < k → k < k + k
+      less k h = omega arith
+
+-- what is left is below t, and leaves over by y what it did
+pub left_below : (a t q : ℕ) → 0 < t → q ≡ a % t → q < t
+left_below a t q h e = subst (λ (k : ℕ). k < t) (sym e) (mod-lt a h)
+
+pub left_rest : (a b t q : ℕ) → IsPowerMultiple b t → q ≡ a % t → q % b ≡ a % b
+left_rest a b t q m e = ap (λ (k : ℕ). k % b) e ∙ rest_of_multiple a b t (2 ^ m.power) m.is
+
+pub ends_below : (a b t q : ℕ) → q < t → t ≤ b → q % b ≡ a % b → q ≡ a % b
+ends_below a b t q l h e = sym (mod-eq_of_lt (lt_of_lt_of_le l h)) ∙ e

@@ -4,7 +4,7 @@
 
 mod guesses;
 
-ghost use Rattle.std.specs.Prelude.{◌≡◌, ◌<◌, false, T};
+ghost use Rattle.std.specs.Prelude.{◌≡◌, ◌+◌, ◌%◌, ◌<◌, ◌≤◌, false, T};
 ghost use Rattle.std.specs.Float.{binary64};
 ghost use Rattle.std.specs.Float.Ieee.Positive.{positive};
 ghost use Rattle.std.specs.Float as Floats;
@@ -13,7 +13,7 @@ ghost use Rattle.floats.specs.Choices.{larger_of, smaller_of, signed};
 ghost use Rattle.floats.specs.Sums as Sums;
 ghost use Rattle.floats.specs.Polynomials.{polynomial};
 ghost use Rattle.floats.specs.Roots.{NearestRoot, root_of_other, units};
-ghost use Rattle.floats.specs.Rests.{Size};
+ghost use Rattle.floats.specs.Rests.{Size, IsPowerMultiple};
 ghost use Rattle.floats.specs.Remainders.{ninety, folded_rest, folded_quotient, zero_signed, rest_by90, quotient_by90, NearestRemainder};
 
 use guesses::checked_root;
@@ -96,23 +96,52 @@ pub fn sqrt(x: f64) -> f64
     x.sqrt()
 }
 
-// What the size r leaves over after whole multiples of the size y. Each difference is exact: neither
-// term of one is more than twice the other. A multiple that is too far off is taken by way of 2 y.
+// The size y, doubled as often as it stays at most r, which is not below it. Each sum is exact, and
+// r - t is so where it comes near t.
+fn reach(r: f64, y: f64) -> f64
+    requires whole { Size r }
+    requires part { Size y }
+    requires above { 0 < units binary64 y }
+    requires reached { units binary64 y ≤ units binary64 r }
+    ensures size { Size result }
+    ensures multiple { IsPowerMultiple (units binary64 y) (units binary64 result) }
+    ensures near { units binary64 r < units binary64 result + units binary64 result }
+{
+    let mut t = y;
+    while t <= r - t {
+        t = t + t;
+    }
+    t
+}
+
+// The size r less the size t where it reaches it, r being below twice t. The difference is exact.
+fn lessened(r: f64, t: f64) -> f64
+    requires whole { Size r }
+    requires part { Size t }
+    requires near { units binary64 r < units binary64 t + units binary64 t }
+    ensures size { Size result }
+    ensures units { units binary64 result ≡ units binary64 r % units binary64 t }
+{
+    if r < t { r } else { (r - t).abs() }
+}
+
+// What the size r leaves over after whole multiples of the size y, by long division in powers of two.
 fn rest(r: f64, y: f64) -> f64
-    requires size { Size r }
-    requires divisor { Size y }
+    requires whole { Size r }
+    requires part { Size y }
     requires above { 0 < units binary64 y }
     ensures { result ≡ r ⊛ y }
 {
     if r < y {
         return r;
     }
-    let over = r - y;
-    if over < y {
-        return over.abs();
+    let mut t = reach(r, y);
+    let mut left = lessened(r, t);
+    while y < t {
+        t = t / 2.0;
+        left = lessened(left, t);
     }
-    let twice = rest(r, y + y);
-    if twice < y { twice } else { (twice - y).abs() }
+    left
 }
 
 // The remainder of x by y, which is what `%` answers: x less a whole number of times y, cut to the

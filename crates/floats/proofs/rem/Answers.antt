@@ -1,7 +1,6 @@
 -- What has no whole multiples taken off is answered at once; otherwise the sizes leave a rest over, which takes the sign of x.
-use Rattle.std.proofs.Common.{◌≡◌, ℕ, ◌<◌, true, false, sym, ap, ◌∙◌, subst}
+use Rattle.std.proofs.Common.{ℕ, ◌<◌, true, false, sym, ap, ◌∙◌, subst}
 use lib.Ieee.{Float, binary64, neg, rem}
-use Rattle.std.specs.Float.{float_is_finite, float_with_sign}
 use Rattle.floats.specs.Roots.{units}
 use Rattle.floats.specs.Rests.{Size}
 use Rattle.floats.proofs.Rests.{not_finite_rest, nan_rest, rest_by_infinity, rest_by_zero, finite_of, tested_zero, some_units, abs_size, abs_units, rest_of_plus, rest_of_minus}
@@ -23,11 +22,11 @@ returns-then-y c =
     rest_by_zero c.args.x c.args.y c.well_formed.1.0.1 (sym c.is_finite.ensures.value ∙ c.if-not-is_finite.false)
     (finite_of c.args.y (sym c.is_nan.ensures.value ∙ c.if-is_nan.false) (sym c.is_infinite.ensures.value ∙ c.if-is_infinite.false)) (tested_zero c.args.y true c.if-y.true)
 
-pub rest-size-requires-clause-size : goal.rest-size-requires-clause-size
-rest-size-requires-clause-size c = subst Size (sym c.abs.ensures.value) (abs_size c.args.x c.well_formed.0.1 (sym c.is_finite.ensures.value ∙ c.if-not-is_finite.false))
+pub rest-size-requires-clause-whole : goal.rest-size-requires-clause-whole
+rest-size-requires-clause-whole c = subst Size (sym c.abs.ensures.value) (abs_size c.args.x c.well_formed.0.1 (sym c.is_finite.ensures.value ∙ c.if-not-is_finite.false))
 
-pub rest-size-requires-clause-divisor : goal.rest-size-requires-clause-divisor
-rest-size-requires-clause-divisor c =
+pub rest-size-requires-clause-part : goal.rest-size-requires-clause-part
+rest-size-requires-clause-part c =
     subst Size (sym c.abs-2.ensures.value)
     (abs_size c.args.y c.well_formed.1.0.1 (finite_of c.args.y (sym c.is_nan.ensures.value ∙ c.if-is_nan.false) (sym c.is_infinite.ensures.value ∙ c.if-is_infinite.false)))
 
