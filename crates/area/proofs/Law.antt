@@ -9,6 +9,7 @@ use Rattle.std.specs.Float as Floats
 use Rattle.std.proofs.lemmas.Int.{ints}
 use Rattle.exact.specs.Values.{Is, value}
 use Rattle.exact.proofs.Signs.{unsigned_abs_neg}
+use Rattle.exact.proofs.Rests.{positive_size}
 use Rattle.exact.proofs.Values.{finite_is, is_value, is_finite, is_rep, neg_is}
 use Rattle.exact.proofs.Orders.{le_is}
 use Rattle.exact.proofs.Remainders.{rem_is}
@@ -42,9 +43,6 @@ finite_value x F n = finite_is binary64 x F n
 -- ---- the whole area is positive and even
 positive_above : (q : ℕ) (A : ℤ) → 0 < q → le_z (pos q) A ≡ true → (pos 0 <ℤ A) × (q ≤ nat_abs A) × (A ≡ pos (nat_abs A))
 positive_above q A Q h = (omega (arith, ints), omega (arith, ints), omega (arith, ints))
-
-positive_size : (A : ℤ) → pos 0 <ℤ A → 0 < nat_abs A
-positive_size A h = omega (arith, ints)
 
 opposite_halves : (h A : ℤ) → h +ℤ h ≡ A → neg_ℤ A ≡ neg_ℤ h +ℤ neg_ℤ h
 opposite_halves h A e = omega (arith, ints)

@@ -3,6 +3,7 @@
 use Rattle.std.proofs.Common.{◌≡◌, ℕ, ◌+◌, ◌*◌, ◌^◌, ◌<◌, ◌≤◌, ℤ, pos, ◌+ℤ◌, ◌-ℤ◌, neg_ℤ, nat_abs, ◌≤ℤ◌, ◌<ℤ◌, zero-le, le_trans, lt_of_le_of_lt, le_of_lt, add-le-add, mul-le-mul_right, add-mul, zero-mul, arith}
 use Rattle.std.proofs.lemmas.Int.{ints}
 use Rattle.exact.proofs.Signs.{unsigned_abs_neg}
+use Rattle.exact.proofs.Rests.{between}
 use Rattle.exact.specs.Rounded.{rounded_z, RepZ}
 use Rattle.area.proofs.Congruence.{Congruent, congruent_more, congruent_less, congruent_neg}
 use Rattle.exact.proofs.Integers.{rounded_z-low, rounded_z-high, rounded_z_relative}
@@ -40,9 +41,6 @@ stands_exact p A target r c h = record { exact = r; congruent = c; near = rw (no
 
 within : (n : ℕ) (z : ℤ) → nat_abs z ≤ n → (neg_ℤ (pos n) ≤ℤ z) × (z ≤ℤ pos n)
 within n z h = (omega (arith, ints), omega (arith, ints))
-
-between : (n : ℕ) (z : ℤ) → neg_ℤ (pos n) ≤ℤ z → z ≤ℤ pos n → nat_abs z ≤ n
-between n z h k = omega (arith, ints)
 
 -- what lies between -h and h is rounded to what lies there too
 rounded-within : (p : ℕ) (h z : ℤ) → 0 < p → RepZ p h → nat_abs z ≤ nat_abs h → nat_abs (rounded_z p z) ≤ nat_abs h

@@ -5,6 +5,11 @@ use Rattle.floats.specs.Arithmetic.{◌⊕◌, ◌⊖◌, ◌⊘◌, ◌⊛◌, 
 use Rattle.area.specs.declared.Winding.{Winding}
 use Rattle.area.specs.declared.Winding.TheVariants.{Clockwise, CounterClockwise}
 
+-- the other sense
+abbrev pub reversed : Winding → Winding
+reversed Clockwise = CounterClockwise
+reversed CounterClockwise = Clockwise
+
 -- a pole is surrounded where the number of crossings is odd
 abbrev pub is_odd : ℤ → Bool
 is_odd n = unsigned_abs n % 2 == 1

@@ -4,15 +4,27 @@
 
 ghost use Rattle.std.specs.Prelude.{◌≡◌};
 ghost use Rattle.area.specs.AreaLaw.{AreaLaw};
-ghost use Rattle.area.specs.Reduction.{is_odd, crossed, turned, placed, reduced_area};
+ghost use Rattle.area.specs.Reduction.{reversed, is_odd, crossed, turned, placed, reduced_area};
 
 use floats::rem;
 
 /// The sense in which a polygon with a positive area is traversed.
-#[derive(Clone, Copy)]
+#[derive(Clone, Copy, PartialEq, Eq, Hash, Debug)]
 pub enum Winding {
     Clockwise,
     CounterClockwise,
+}
+
+impl Winding {
+    /// The other sense.
+    pub fn reversed(self) -> Winding
+        ensures { result ≡ reversed self }
+    {
+        match self {
+            Winding::Clockwise => Winding::CounterClockwise,
+            Winding::CounterClockwise => Winding::Clockwise,
+        }
+    }
 }
 
 // Whether the edges cross the prime meridian an odd number of times, so that the polygon
@@ -70,7 +82,8 @@ fn place(whole: f64, area: f64, signed: bool) -> f64
 
 /// The area of a polygon whose edge areas have the rounded sum `sum` and whose edges cross the
 /// prime meridian `crossings` times, on a surface of the area `whole`. Where `sum` is not finite,
-/// the answer is NaN.
+/// the answer is NaN. The winding is the polygon's own, `signed` is told with each question.
+#[tactic(auto, using(crate::proofs::Law::area_law), unfolding(crate::specs::Reduction::reduced_area))]
 pub fn reduce_area(whole: f64, sum: f64, crossings: i64, winding: Winding, signed: bool) -> f64
     ensures value { result ≡ reduced_area whole winding signed (is_odd crossings) sum }
     ensures law { AreaLaw whole winding signed (is_odd crossings) sum result }

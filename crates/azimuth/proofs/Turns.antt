@@ -1,43 +1,48 @@
 -- The turns of Newton's method one by one, and that they make at most as many evaluations as there are turns.
-use Rattle.std.proofs.Common.{◌≡◌, ℕ, zero, suc, ◌+◌, ◌-◌, ◌<◌, ◌≤◌, ap, ◌∙◌, arith}
+use Rattle.std.proofs.Common.{◌≡◌, ℕ, zero, suc, ◌+◌, ◌-◌, ◌<◌, ◌≤◌, Bool, true, false, cond, sym, ap, ◌∙◌, arith, ControlFlow, Continue, Break}
 use Rattle.functions.specs.Sets.{Funcs}
-use Rattle.azimuth.specs.Newton.{one_turn, found, after, turns, solved_azimuth, begun}
+use Rattle.azimuth.specs.Newton.{judged, one_turn, found, after, turns, solved_azimuth, begun}
 use Rattle.ellipsoid.specs.declared.arcs.Azimuth.{Azimuth}
 use Rattle.ellipsoid.specs.declared.shape.Ellipsoid.{Ellipsoid}
 use Rattle.ellipsoid.specs.declared.latitudes.Ends.{Ends}
 use Rattle.ellipsoid.specs.declared.latitudes.Difference.{Difference}
 use Rattle.azimuth.specs.declared.newton.Search.{Search}
 use Rattle.azimuth.specs.declared.newton.Found.{Found}
-use Rattle.azimuth.specs.declared.newton.Outcome.{Outcome}
-use Rattle.azimuth.specs.declared.newton.Outcome.TheVariants.{Stop, Go}
+
+turns_left : (i : ℕ) → i < 83 → 83 - i ≡ suc (83 - (i + 1))
+turns_left i h = omega arith
+
+cond_few : (b : Bool) (most : ℕ) (r : Found) (t : Search) (others : Search → Found) → r.evaluations ≤ most → (others t).evaluations ≤ most → (after (cond b (Break r) (Continue t)) others).evaluations ≤ most
+unfolding after
+cond_few true most r t others h g = h
+cond_few false most r t others h g = g
 
 module _ (F : Funcs) (E : Ellipsoid) (e : Ends) (d : Difference) where
-  turns-one : (n k i : ℕ) (s : Search) → n ≡ suc k → turns F E e d n i s ≡ after i (one_turn F E e d i s) (turns F E e d k (i + 1))
+  turns-one : (i : ℕ) (s : Search) → i < 83 → turns F E e d (83 - i) i s ≡ after (one_turn F E e d i s) (turns F E e d (83 - (i + 1)) (i + 1))
   unfolding turns
-  turns-one n k i s h = ap (λ (m : ℕ). turns F E e d m i s) h
+  turns-one i s h = ap (λ (m : ℕ). turns F E e d m i s) (turns_left i h)
 
-  pub turns_stop : (n k i : ℕ) (s t : Search) → n ≡ suc k → one_turn F E e d i s ≡ Stop t → turns F E e d n i s ≡ found t (i + 1)
+  pub turns_break : (i : ℕ) (s : Search) (r : Found) (z : Azimuth) → i < 83 → Break r ≡ one_turn F E e d i s → turns F E e d (83 - i) i s ≡ solved_azimuth F E e d z → r ≡ solved_azimuth F E e d z
   unfolding after
-  turns_stop n k i s t h o = turns-one n k i s h ∙ ap (λ (r : Outcome). after i r (turns F E e d k (i + 1))) o
+  turns_break i s r z h o k = ap (λ (c : ControlFlow Found Search). after c (turns F E e d (83 - (i + 1)) (i + 1))) o ∙ sym (turns-one i s h) ∙ k
 
-  pub turns_go : (n k i : ℕ) (s t : Search) → n ≡ suc k → one_turn F E e d i s ≡ Go t → turns F E e d n i s ≡ turns F E e d k (i + 1) t
+  pub turns_continue : (i : ℕ) (s t : Search) (z : Azimuth) → i < 83 → Continue t ≡ one_turn F E e d i s → turns F E e d (83 - i) i s ≡ solved_azimuth F E e d z → turns F E e d (83 - (i + 1)) (i + 1) t ≡ solved_azimuth F E e d z
   unfolding after
-  turns_go n k i s t h o = turns-one n k i s h ∙ ap (λ (r : Outcome). after i r (turns F E e d k (i + 1))) o
+  turns_continue i s t z h o k = ap (λ (c : ControlFlow Found Search). after c (turns F E e d (83 - (i + 1)) (i + 1))) o ∙ sym (turns-one i s h) ∙ k
 
-  pub turns-none : (n i : ℕ) (s : Search) → n ≡ 0 → turns F E e d n i s ≡ found s i
+  pub turns_over : (i : ℕ) (s : Search) (z : Azimuth) → 83 ≡ i → turns F E e d (83 - i) i s ≡ solved_azimuth F E e d z → found s 83 ≡ solved_azimuth F E e d z
   unfolding turns
-  turns-none n i s h = ap (λ (m : ℕ). turns F E e d m i s) h
+  turns_over i s z h k = ap (λ (m : ℕ). turns F E e d (83 - m) m s) h ∙ k
 
-  after_few : (i most : ℕ) (r : Outcome) (others : Search → Found) → i + 1 ≤ most → ((t : Search) → (others t).evaluations ≤ most) → (after i r others).evaluations ≤ most
-  unfolding after
-  after_few i most (Stop t) others h g = h
-  after_few i most (Go t) others h g = g t
+  one_turn_few : (i most : ℕ) (s : Search) (others : Search → Found) → i + 1 ≤ most → ((t : Search) → (others t).evaluations ≤ most) → (after (one_turn F E e d i s) others).evaluations ≤ most
+  unfolding one_turn judged
+  one_turn_few i most s others h g = cond_few _ most _ _ others h (g _)
 
   pub turns_few : (n i most : ℕ) (s : Search) → i + n ≤ most → (turns F E e d n i s).evaluations ≤ most
   unfolding turns
   turns_few zero i most s h = omega arith
   turns_few (suc n) i most s h =
-      after_few i most (one_turn F E e d i s) (turns F E e d n (i + 1)) (omega arith) (λ t. turns_few n (i + 1) most t (omega arith))
+      one_turn_few i most s (turns F E e d n (i + 1)) (omega arith) (λ t. turns_few n (i + 1) most t (omega arith))
 
   pub solved_few : (z : Azimuth) → (solved_azimuth F E e d z).evaluations ≤ 83
   unfolding solved_azimuth
@@ -46,10 +51,3 @@ module _ (F : Funcs) (E : Ellipsoid) (e : Ends) (d : Difference) where
   pub solved_is : (z : Azimuth) (s : Search) → s ≡ begun z → turns F E e d 83 0 s ≡ solved_azimuth F E e d z
   unfolding solved_azimuth
   solved_is z s h = ap (turns F E e d 83 0) h
-
--- the numbers of a turn
-pub turns_left : (i : ℕ) → i < 83 → 83 - i ≡ suc (83 - (i + 1))
-turns_left i h = omega arith
-
-pub turns_over : (i : ℕ) → 83 ≤ i → 83 - i ≡ 0
-turns_over i h = omega arith

@@ -16,6 +16,7 @@ use Rattle.ellipsoid.specs.declared.arcs.Arc.{Arc}
 use Rattle.ellipsoid.specs.declared.arcs.Azimuth.{Azimuth}
 use Rattle.ellipsoid.specs.declared.shape.Ellipsoid.{Ellipsoid}
 use Rattle.azimuth.specs.declared.lambda.Lambda.{Lambda}
+use Rattle.azimuth.specs.declared.lambda.Trial.{Trial}
 use Rattle.ellipsoid.specs.declared.latitudes.Ends.{Ends}
 use Rattle.ellipsoid.specs.declared.latitudes.Difference.{Difference}
 
@@ -57,6 +58,11 @@ arc_between F e z z2 =
     (norm_x F e.sbet1 (z.calp ⊗ e.cbet1)) (norm_y F e.sbet1 (z.calp ⊗ e.cbet1))
     (norm_x F e.sbet2 (z2.calp ⊗ e.cbet2)) (norm_y F e.sbet2 (z2.calp ⊗ e.cbet2))
 
+-- the geodesic of the azimuth α1
+unfoldable pub trial_of : Funcs → Ellipsoid → Ends → Azimuth → Trial
+trial_of F E e z =
+    record { alp1 = z; alp2 = arrival e z; arc = arc_between F e z (arrival e z); eps = epsilon_of F E e z }
+
 -- the spherical longitude difference ω12, times a positive number, from the tangents of ω1 and ω2
 abbrev pub somg12 : Ends → Azimuth → Azimuth → Float
 somg12 e z z2 = larger_of ((z.calp ⊗ e.cbet1) ⊗ (salp0 e z ⊗ e.sbet2) ⊖ (salp0 e z ⊗ e.sbet1) ⊗ (z2.calp ⊗ e.cbet2)) zero
@@ -68,38 +74,37 @@ comg12 e z z2 = (z.calp ⊗ e.cbet1) ⊗ (z2.calp ⊗ e.cbet2) ⊕ (salp0 e z �
 abbrev pub eta_at : Funcs → Difference → Float → Float → Float
 eta_at F d s c = F.atan2_of (s ⊗ d.clam12 ⊖ c ⊗ d.slam12) (c ⊗ d.clam12 ⊕ s ⊗ d.slam12)
 
-unfoldable pub eta_of : Funcs → Ends → Difference → Azimuth → Azimuth → Float
-eta_of F e d z z2 = eta_at F d (somg12 e z z2) (comg12 e z z2)
+unfoldable pub eta_of : Funcs → Ends → Difference → Trial → Float
+eta_of F e d t = eta_at F d (somg12 e t.alp1 t.alp2) (comg12 e t.alp1 t.alp2)
 
 -- λ12 less ω12, eqs. 8 and 23
-unfoldable pub domg12_of : Ellipsoid → Ends → Azimuth → Arc → Float → Float
-domg12_of E e z arc eps = neg E.f ⊗ A3f E eps ⊗ salp0 e z ⊗ (arc.sig12 ⊕ wave arc (C3f E eps))
+unfoldable pub domg12_of : Ellipsoid → Ends → Trial → Float
+domg12_of E e t = neg E.f ⊗ A3f E t.eps ⊗ salp0 e t.alp1 ⊗ (t.arc.sig12 ⊕ wave t.arc (C3f E t.eps))
 
 -- the derivative of λ12 by α1, eq. 46; where cos α2 = 0, its limit
-unfoldable pub slope_of : Ellipsoid → Ends → Azimuth → Arc → Float → Float
-slope_of E e z2 arc eps =
-    cond (z2.calp ≗ zero)
+unfoldable pub slope_of : Ellipsoid → Ends → Trial → Float
+slope_of E e t =
+    cond (t.alp2.calp ≗ zero)
     (neg two ⊗ E.f1 ⊗ e.dn1 ⊘ e.sbet1)
-    ((lengths E eps arc e reduced_length).m12b ⊗ (E.f1 ⊘ (z2.calp ⊗ e.cbet2)))
+    ((lengths E t.eps t.arc e reduced_length).m12b ⊗ (E.f1 ⊘ (t.alp2.calp ⊗ e.cbet2)))
 
 -- the derivative where it is wanted
-abbrev pub slope_if : Bool → Ellipsoid → Ends → Azimuth → Arc → Float → Float
-slope_if diffp E e z2 arc eps = cond diffp (slope_of E e z2 arc eps) not_a_number
+abbrev pub slope_if : Bool → Ellipsoid → Ends → Trial → Float
+slope_if diffp E e t = cond diffp (slope_of E e t) not_a_number
 
--- from both azimuths, the arc and ε
-unfoldable pub lambda_along : Funcs → Ellipsoid → Ends → Difference → Azimuth → Azimuth → Bool → Arc → Float → Lambda
-lambda_along F E e d z z2 diffp arc eps =
+unfoldable pub lambda_along : Funcs → Ellipsoid → Ends → Difference → Bool → Trial → Lambda
+lambda_along F E e d diffp t =
     record {
-      lam12 = eta_of F e d z z2 ⊕ domg12_of E e z arc eps;
-      alp2 = z2;
-      arc = arc;
-      eps = eps;
-      domg12 = domg12_of E e z arc eps;
-      dlam12 = slope_if diffp E e z2 arc eps;
+      lam12 = eta_of F e d t ⊕ domg12_of E e t;
+      alp2 = t.alp2;
+      arc = t.arc;
+      eps = t.eps;
+      domg12 = domg12_of E e t;
+      dlam12 = slope_if diffp E e t;
     }
 
 unfoldable pub lambda_from : Funcs → Ellipsoid → Ends → Difference → Azimuth → Bool → Lambda
-lambda_from F E e d z diffp = lambda_along F E e d z (arrival e z) diffp (arc_between F e z (arrival e z)) (epsilon_of F E e z)
+lambda_from F E e d z diffp = lambda_along F E e d diffp (trial_of F E e z)
 
 -- how far λ12 of the geodesic at the azimuth α1 is from the wanted one, with what goes with it
 unfoldable pub lambda12 : Funcs → Ellipsoid → Ends → Difference → Azimuth → Bool → Lambda

@@ -1,3 +1,4 @@
+pub mod Problems
 pub mod Start
 pub mod Lambda
 pub mod Newton

@@ -8,7 +8,7 @@ use Rattle.floats.specs.Arithmetic.{◌⊕◌, ◌⊖◌, ◌⊗◌, ◌⊘◌, 
 use Rattle.geomath.specs.Angles as Angles
 use Rattle.geomath.specs.Angles.{one, two, sixteen}
 use Rattle.series.specs.Degrees.{π}
-use Rattle.series.specs.Vectors.{norm_x, norm_y}
+use Rattle.ellipsoid.specs.Arcs.{unit, turned}
 use Rattle.ellipsoid.specs.Constants.{eight, tiny, tol0, tolb}
 use Rattle.azimuth.specs.Lambda.{lambda12}
 use Rattle.ellipsoid.specs.declared.arcs.Azimuth.{Azimuth}
@@ -19,8 +19,8 @@ use Rattle.ellipsoid.specs.declared.latitudes.Difference.{Difference}
 use Rattle.azimuth.specs.declared.newton.Bracket.{Bracket}
 use Rattle.azimuth.specs.declared.newton.Search.{Search}
 use Rattle.azimuth.specs.declared.newton.Found.{Found}
-use Rattle.azimuth.specs.declared.newton.Outcome.{Outcome}
-use Rattle.azimuth.specs.declared.newton.Outcome.TheVariants.{Stop, Go}
+use Rattle.std.specs.declared.ops.ControlFlow.{ControlFlow}
+use Rattle.std.specs.declared.ops.ControlFlow.TheVariants.{Continue, Break}
 
 -- Newton's steps are tried so many times, and evaluations are made at most so many times
 abbrev pub maxit1 : ℕ
@@ -51,17 +51,6 @@ narrowed i v z k =
 -- Newton's step -v/v'
 abbrev pub newton_step : Lambda → Float
 newton_step L = neg L.lam12 ⊘ L.dlam12
-
--- the azimuth turned by an angle
-unfoldable pub turned : Funcs → Azimuth → Float → Azimuth
-turned F z angle =
-    record {
-      salp = z.salp ⊗ F.cos_of angle ⊕ z.calp ⊗ F.sin_of angle;
-      calp = z.calp ⊗ F.cos_of angle ⊖ z.salp ⊗ F.sin_of angle;
-    }
-
-unfoldable pub unit : Funcs → Azimuth → Azimuth
-unit F z = record { salp = norm_x F z.salp z.calp; calp = norm_y F z.salp z.calp }
 
 -- Newton's step is taken where the derivative is positive and the step leads to an azimuth to the east
 unfoldable pub steps : Funcs → ℕ → Azimuth → Lambda → Bool
@@ -95,14 +84,14 @@ bisected F k L = record { alp1 = middle F k; bracket = k; tripn = false; tripb =
 unfoldable pub next : Funcs → ℕ → Search → Lambda → Bracket → Search
 next F i s L k = cond (steps F i s.alp1 L) (stepped F s k L) (bisected F k L)
 
--- what is done with the i-th evaluation
-unfoldable pub judged : Funcs → ℕ → Search → Lambda → Outcome
+-- what is done with the i-th evaluation: the search breaks off with what is found there, or continues with another guess
+unfoldable pub judged : Funcs → ℕ → Search → Lambda → ControlFlow Found Search
 judged F i s L =
     cond (converged s L.lam12)
-    (Stop (record { alp1 = s.alp1; bracket = s.bracket; tripn = s.tripn; tripb = s.tripb; last = L }))
-    (Go (next F i s L (narrowed i L.lam12 s.alp1 s.bracket)))
+    (Break (record { alp1 = s.alp1; last = L; evaluations = i + 1 }))
+    (Continue (next F i s L (narrowed i L.lam12 s.alp1 s.bracket)))
 
-unfoldable pub one_turn : Funcs → Ellipsoid → Ends → Difference → ℕ → Search → Outcome
+unfoldable pub one_turn : Funcs → Ellipsoid → Ends → Difference → ℕ → Search → ControlFlow Found Search
 one_turn F E e d i s = judged F i s (lambda12 F E e d s.alp1 (nat_lt i maxit1))
 
 -- ---- all turns: each makes one evaluation; when they run out, the azimuth of the next guess goes with the last evaluation
@@ -110,14 +99,14 @@ one_turn F E e d i s = judged F i s (lambda12 F E e d s.alp1 (nat_lt i maxit1))
 abbrev pub found : Search → ℕ → Found
 found s n = record { alp1 = s.alp1; last = s.last; evaluations = n }
 
--- after a turn: the end, or what the other turns make of the next guess
-unfoldable pub after : ℕ → Outcome → (Search → Found) → Found
-after i (Stop t) others = found t (i + 1)
-after i (Go t) others = others t
+-- after a turn: what is found, or what the other turns make of the next guess
+unfoldable pub after : ControlFlow Found Search → (Search → Found) → Found
+after (Break r) others = r
+after (Continue t) others = others t
 
 unfoldable pub turns : Funcs → Ellipsoid → Ends → Difference → ℕ → ℕ → Search → Found
 turns F E e d zero i s = found s i
-turns F E e d (suc fuel) i s = after i (one_turn F E e d i s) (turns F E e d fuel (i + 1))
+turns F E e d (suc fuel) i s = after (one_turn F E e d i s) (turns F E e d fuel (i + 1))
 
 -- before the first evaluation: the azimuth of the start, and a bracket from due north to due south
 abbrev pub north : Azimuth

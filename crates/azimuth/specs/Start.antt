@@ -1,6 +1,6 @@
 -- The starting point of the inverse problem, Karney (2013), section 5: the azimuth at the first point from the great circle of the auxiliary sphere, which already solves the problem for a short line,
 -- or, for nearly antipodal points, from the astroid problem. Assumes nothing.
-use Rattle.std.specs.Prelude.{Bool, false, cond, ◌&&◌, ◌||◌, is_nan, Float}
+use Rattle.std.specs.Prelude.{Bool, false, cond, ◌&&◌, ◌||◌, is_nan, Option, Some, None, Float}
 use Rattle.std.specs.Float.Ieee.{neg}
 use Rattle.std.specs.Float.{float_with_sign}
 use Rattle.functions.specs.Sets.{Funcs}
@@ -14,6 +14,7 @@ use Rattle.ellipsoid.specs.Capabilities.{reduced_length}
 use Rattle.ellipsoid.specs.Constants.{half, six, tenth, hundredth, tol1, xthresh, root}
 use Rattle.ellipsoid.specs.Expansions.{A3f, epsilon}
 use Rattle.ellipsoid.specs.Lengths.{lengths}
+use Rattle.ellipsoid.specs.ReducedLatitudes.{sin_difference, cos_difference, sin_sum, cos_sum}
 use Rattle.ellipsoid.specs.declared.arcs.Arc.{Arc}
 use Rattle.ellipsoid.specs.declared.arcs.Azimuth.{Azimuth}
 use Rattle.ellipsoid.specs.declared.shape.Ellipsoid.{Ellipsoid}
@@ -21,24 +22,9 @@ use Rattle.ellipsoid.specs.declared.latitudes.Ends.{Ends}
 use Rattle.ellipsoid.specs.declared.latitudes.Difference.{Difference}
 use Rattle.ellipsoid.specs.declared.lengths.Lengths.{Lengths}
 use Rattle.azimuth.specs.declared.start.Turn.{Turn}
+use Rattle.azimuth.specs.declared.start.GreatCircle.{GreatCircle}
 use Rattle.azimuth.specs.declared.start.Scaled.{Scaled}
 use Rattle.azimuth.specs.declared.start.Start.{Start}
-
--- ---- sums and differences of the reduced latitudes
-
--- sine and cosine of β2 - β1
-unfoldable pub sin_difference : Ends → Float
-sin_difference e = e.sbet2 ⊗ e.cbet1 ⊖ e.cbet2 ⊗ e.sbet1
-
-abbrev pub cos_difference : Ends → Float
-cos_difference e = e.cbet2 ⊗ e.cbet1 ⊕ e.sbet2 ⊗ e.sbet1
-
--- sine and cosine of β2 + β1
-unfoldable pub sin_sum : Ends → Float
-sin_sum e = e.sbet2 ⊗ e.cbet1 ⊕ e.cbet2 ⊗ e.sbet1
-
-abbrev pub cos_sum : Ends → Float
-cos_sum e = e.cbet2 ⊗ e.cbet1 ⊖ e.sbet2 ⊗ e.sbet1
 
 -- ---- the spherical longitude difference ω12, eq. 48
 
@@ -59,8 +45,8 @@ mean_omega E e d = d.lam12 ⊘ (E.f1 ⊗ dn_mean E e)
 unfoldable pub turn_of : Funcs → Ellipsoid → Ends → Difference → Turn
 turn_of F E e d =
     cond (short_line e d)
-    (record { dnm = dn_mean E e; somg12 = F.sin_of (mean_omega E e d); comg12 = F.cos_of (mean_omega E e d) })
-    (record { dnm = not_a_number; somg12 = d.slam12; comg12 = d.clam12 })
+    (record { dnm = Some (dn_mean E e); somg12 = F.sin_of (mean_omega E e d); comg12 = F.cos_of (mean_omega E e d) })
+    (record { dnm = None; somg12 = d.slam12; comg12 = d.clam12 })
 
 -- ---- the great circle, eqs. 49 to 51: azimuths times sin σ12, and σ12
 
@@ -97,6 +83,13 @@ sin_arc F z = F.hypot_of z.salp z.calp
 
 unfoldable pub cos_arc : Ends → Turn → Float
 cos_arc e t = e.sbet1 ⊗ e.sbet2 ⊕ e.cbet1 ⊗ e.cbet2 ⊗ t.comg12
+
+unfoldable pub great_circle_of : Funcs → Ends → Turn → GreatCircle
+great_circle_of F e t =
+    record { turn = t; alp1 = departing e t; ssig12 = sin_arc F (departing e t); csig12 = cos_arc e t }
+
+unfoldable pub great_circle : Funcs → Ellipsoid → Ends → Difference → GreatCircle
+great_circle F E e d = great_circle_of F e (turn_of F E e d)
 
 -- an azimuth to the east, of length 1; where the sine is not positive, due east
 unfoldable pub settled : Funcs → Azimuth → Azimuth
@@ -185,32 +178,33 @@ far_from_antipode E e ssig12 csig12 =
     (float_with_sign false E.n ≻ tenth) || (csig12 ≽ zero) || (ssig12 ≽ six ⊗ float_with_sign false E.n ⊗ π ⊗ square e.cbet1)
 
 -- the azimuth at the first point for a line that is not short
-unfoldable pub long_azimuth : Funcs → Ellipsoid → Ends → Difference → Turn → Azimuth
-long_azimuth F E e d t =
-    cond (far_from_antipode E e (sin_arc F (departing e t)) (cos_arc e t)) (departing e t) (antipodal F E e (scaled_of F E e d))
+unfoldable pub long_azimuth : Funcs → Ellipsoid → Ends → Difference → GreatCircle → Azimuth
+long_azimuth F E e d c = cond (far_from_antipode E e c.ssig12 c.csig12) c.alp1 (antipodal F E e (scaled_of F E e d))
 
 -- the start for such a line: -1 in the place of σ12
-unfoldable pub long_start : Funcs → Ellipsoid → Ends → Difference → Turn → Start
-long_start F E e d t =
+unfoldable pub long_start : Funcs → Ellipsoid → Ends → Difference → GreatCircle → Float → Start
+long_start F E e d c dnm =
     record {
       sig12 = neg one;
-      alp1 = settled F (long_azimuth F E e d t);
+      alp1 = settled F (long_azimuth F E e d c);
       alp2 = record { salp = not_a_number; calp = not_a_number };
-      dnm = t.dnm;
+      dnm = dnm;
     }
 
 -- for a short line its arc and both azimuths
-unfoldable pub short_start : Funcs → Ends → Turn → Start
-short_start F e t =
+unfoldable pub short_start : Funcs → Ends → GreatCircle → Float → Start
+short_start F e c dnm =
     record {
-      sig12 = F.atan2_of (sin_arc F (departing e t)) (cos_arc e t);
-      alp1 = settled F (departing e t);
-      alp2 = arriving F e t;
-      dnm = t.dnm;
+      sig12 = F.atan2_of c.ssig12 c.csig12;
+      alp1 = settled F c.alp1;
+      alp2 = arriving F e c.turn;
+      dnm = dnm;
     }
 
-unfoldable pub start_at : Funcs → Ellipsoid → Ends → Difference → Turn → Start
-start_at F E e d t = cond (short_line e d && (sin_arc F (departing e t) ≺ E.etol2)) (short_start F e t) (long_start F E e d t)
+-- by dn at the mean latitude, where ω12 was taken with it
+unfoldable pub start_along : Funcs → Ellipsoid → Ends → Difference → GreatCircle → Option Float → Start
+start_along F E e d c (Some dnm) = cond (c.ssig12 ≺ E.etol2) (short_start F e c dnm) (long_start F E e d c dnm)
+start_along F E e d c None = long_start F E e d c not_a_number
 
 unfoldable pub inverse_start : Funcs → Ellipsoid → Ends → Difference → Start
-inverse_start F E e d = start_at F E e d (turn_of F E e d)
+inverse_start F E e d = start_along F E e d (great_circle F E e d) (great_circle F E e d).turn.dnm

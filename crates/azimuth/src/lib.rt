@@ -4,4 +4,7 @@
 
 pub mod lambda;
 pub mod newton;
+pub mod problem;
 pub mod start;
+
+pub use problem::Problem;

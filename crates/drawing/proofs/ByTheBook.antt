@@ -1,8 +1,8 @@
 -- The edits of a sheet on a new outline come to what the book says of them: each is refused exactly when the book refuses it, and costs and leaves what the book says.
-use Rattle.std.proofs.Common.{◌≡◌, ℕ, zero, suc, ◌≤◌, true, eqb, List, [], length, Some, None, Ok, Err, Option, Result, sym, refl, ap, ◌∙◌, subst}
+use Rattle.std.proofs.Common.{◌≡◌, ℕ, zero, suc, ◌≤◌, List, [], length, Some, None, Ok, Err, Option, Result, sym, refl, ap, ◌∙◌, subst}
 use lib.Ieee.{Float}
 use Rattle.std.specs.Result.{result_map_both}
-use Rattle.std.proofs.lemmas.Bool.{eq-eqb, and_from, cond-true}
+use Rattle.std.proofs.lemmas.Bool.{cond-true}
 use Rattle.surface.specs.declared.refusals.Refusal.{Refusal}
 use Rattle.surface.specs.declared.refusals.Refusal.TheVariants.{RowLength}
 use Rattle.area.specs.declared.Winding.{Winding}
@@ -14,11 +14,12 @@ use Rattle.stations.specs.Stations.{together}
 use Rattle.history.specs.declared.Sizes.{Sizes}
 use Rattle.history.specs.declared.Frame.{Frame}
 use Rattle.history.specs.declared.Call.{Call}
-use Rattle.history.specs.Calls.{Done, done_of, same_lengths}
+use Rattle.history.specs.Calls.{Outcome, done_of, same_lengths}
 use Rattle.history.specs.Book.{Book, refusal_on, book_refusal, changed, unless_refused}
 use Rattle.history.specs.Histories.{refusal_in}
 use Rattle.history.specs.Replays.{ran}
 use Rattle.history.specs.Expenses.{cost_in}
+use Rattle.history.proofs.Replaying.{same_itself}
 use Rattle.history.proofs.Pasts.{newest_first}
 use Rattle.history.proofs.Following.{Follows, Right, call_right}
 use Rattle.history.proofs.Spending.{Spends, call_spends}
@@ -57,9 +58,6 @@ module _ (edge : Solve) (whole : Float) (winding : Winding) (opening : Sizes) (b
   took_first f stations edits call strokes c t =
       record { answer = t.answer; stations_after = t.stations_after; edits_after = t.edits_after; follows = t.follows }
 
-  same_itself : (s : Sizes) → same_lengths s s ≡ true
-  same_itself s = and_from (eqb s.stations s.stations) (eqb s.edits s.edits) (eq-eqb s.stations s.stations refl) (eq-eqb s.edits s.edits refl)
-
   took_end : (s : Sketch) (f : Frame) (stations : List Station) (edits : List EditRecord) → Follows edge winding opening s.book f stations edits → (read : Result (Unit {0}) EditFault) → Took f stations edits (record { answer = result_map_both (λ (u : Unit {0}). s.cost) Field read; frame = f; stations = stations; edits = edits }) (ended_by s read)
   took_end s f stations edits r (Ok u) = took_none s.book s.records s.cost f stations edits r (Ok s.cost) None refl
   took_end s f stations edits r (Err fault) = took_none s.book s.records s.cost f stations edits r (Err (Field fault)) (Some (Field fault)) refl
@@ -71,7 +69,7 @@ module _ (edge : Solve) (whole : Float) (winding : Winding) (opening : Sizes) (b
       drawn_after stroke = gone_on stroke stroke.answer (λ spent end. later end (together s.cost spent) stroke.frame stroke.stations stroke.edits)
 
       module _ (end : ℕ) (call : Call) where
-        done : Done
+        done : Outcome
         done = done_of edge whole f stations edits call
 
         right : Right edge whole winding opening (length stations) s.book call (done_of edge whole f stations edits call)
@@ -90,7 +88,7 @@ module _ (edge : Solve) (whole : Float) (winding : Winding) (opening : Sizes) (b
         unfolding done
         by_refusal (Some e) is due =
             let same = refused_same edge whole f stations edits call e is in
-            subst (λ (d : Done). Took f stations edits (record { answer = Err (Outline number at e); frame = d.frame; stations = d.stations; edits = d.edits }) (stopped s (Outline number at e))) (sym same)
+            subst (λ (d : Outcome). Took f stations edits (record { answer = Err (Outline number at e); frame = d.frame; stations = d.stations; edits = d.edits }) (stopped s (Outline number at e))) (sym same)
             (took_none s.book s.records s.cost f stations edits r (Err (Outline number at e)) (Some (Outline number at e)) refl)
         by_refusal None is due =
             let spends = subst (λ (l : List EditRecord). Spends edge opening.edits s.book l call (done_of edge whole f stations edits call)) (sym kept) (call_spends edge whole winding opening s.book f stations edits r call due) in

@@ -1,5 +1,5 @@
 -- What one edit comes to, by what was read of it; and what is left of the edits, one edit after the other.
-use Rattle.std.proofs.Common.{◌≡◌, ℕ, suc, ◌+◌, ◌-◌, ◌<◌, List, Ok, Err, Result, sym, ap, ◌∙◌, add-one, arith}
+use Rattle.std.proofs.Common.{◌≡◌, ℕ, suc, ◌+◌, ◌-◌, ◌<◌, List, Ok, Err, sym, ap, ◌∙◌, add-one, arith}
 use lib.Ieee.{Float}
 use Rattle.std.specs.Result.{result_map_both}
 use Rattle.polygon.specs.Polygons.{Solve}
@@ -9,7 +9,7 @@ use Rattle.stations.specs.declared.records.EditRecord.{EditRecord}
 use Rattle.stations.specs.Stations.{together}
 use Rattle.history.specs.declared.Frame.{Frame}
 use Rattle.history.specs.declared.Call.{Call}
-use Rattle.history.specs.Calls.{Done, done_of}
+use Rattle.history.specs.Calls.{Outcome, done_of}
 use Rattle.history.specs.Histories.{refusal_in}
 use Rattle.history.specs.Expenses.{cost_in}
 use Rattle.packed.specs.declared.faults.EditFault.{EditFault}
@@ -23,7 +23,7 @@ use Rattle.drawing.specs.Strokes.{call_of, Stroke, stroke_answer, stroke_of, edi
 -- ---- one edit
 
 -- a call that was made for an edit that ends at bit `end`
-abbrev pub stroke_by : ℕ → ℕ → ℕ → Done → Stroke
+abbrev pub stroke_by : ℕ → ℕ → ℕ → Outcome → Stroke
 stroke_by number at end d =
     record {
       answer = stroke_answer number at end (refusal_in d.answer) (cost_in d.answer);
@@ -33,7 +33,7 @@ stroke_by number at end d =
     }
 
 module _ (edge : Solve) (whole : Float) (bytes : List ℕ) (number at : ℕ) (f : Frame) (stations : List Station) (edits : List EditRecord) where
-  pub stroke_made : (edit : Edit) (end : ℕ) (call : Call) (d : Done) → Ok (edit, end) ≡ in_edit number (edit_of bytes at) → call ≡ call_of edit → d ≡ done_of edge whole f stations edits call → edit_drawn edge whole bytes number at f stations edits ≡ stroke_by number at end d
+  pub stroke_made : (edit : Edit) (end : ℕ) (call : Call) (d : Outcome) → Ok (edit, end) ≡ in_edit number (edit_of bytes at) → call ≡ call_of edit → d ≡ done_of edge whole f stations edits call → edit_drawn edge whole bytes number at f stations edits ≡ stroke_by number at end d
   unfolding edit_drawn
   stroke_made edit end call d read is does =
       ap (stroke_of edge whole number at f stations edits) (sym read)
@@ -45,14 +45,6 @@ module _ (edge : Solve) (whole : Float) (bytes : List ℕ) (number at : ℕ) (f 
   stroke_fault fault read = ap (stroke_of edge whole number at f stations edits) (sym read)
 
 -- ---- the edits
-
-pub same_stroke : (a b : Stroke) → a.answer ≡ b.answer → a.frame ≡ b.frame → a.stations ≡ b.stations → a.edits ≡ b.edits → a ≡ b
-same_stroke a b answer frame stations edits =
-    let made : Result (Cost × ℕ) SheetFault → Frame → List Station → List EditRecord → Stroke = λ r f s e. record { answer = r; frame = f; stations = s; edits = e } in
-    ap (λ r. made r a.frame a.stations a.edits) answer
-    ∙ ap (λ f. made b.answer f a.stations a.edits) frame
-    ∙ ap (λ s. made b.answer b.frame s a.edits) stations
-    ∙ ap (made b.answer b.frame b.stations) edits
 
 module _ (edge : Solve) (whole : Float) (bytes : List ℕ) (count drawn at : ℕ) (cost : Cost) (f : Frame) (stations : List Station) (edits : List EditRecord) where
   -- after an edit

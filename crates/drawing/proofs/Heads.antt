@@ -1,5 +1,5 @@
 -- What a sheet comes to by its header: a fault, a surface that is refused, or the sheet on its surface.
-use Rattle.std.proofs.Common.{◌≡◌, ℕ, List, IfOk, Some, None, Ok, Err, Option, Result, sym, ap, ◌∙◌, subst, arith}
+use Rattle.std.proofs.Common.{◌≡◌, ℕ, List, IfOk, Some, None, Ok, Err, Option, Result, sym, ap, ◌∙◌, subst}
 use lib.Ieee.{Float}
 use Rattle.geomath.specs.Angles.{one}
 use Rattle.functions.specs.Series.{series}
@@ -29,7 +29,7 @@ use Rattle.drawing.specs.Sketches.{untouched, unless_refused, sheet_on, once_hea
 -- the header that was read is the only one
 same_header : (r : Result Header FieldFault) (h k : Header) → Ok h ≡ in_edit 0 r → r ≡ Ok k → h ≡ k
 same_header (Ok x) h k read is = cc
-same_header (Err e) h k read is = let z : ◌≡◌ {A = ℕ} 0 1 = cc in absurd (omega arith)
+same_header (Err e) h k read is = absurd (cc)
 
 module _ (stations : List Station) (edits : List EditRecord) (bytes : List ℕ) where
   pub head_fault : (fault : EditFault) → Err fault ≡ in_edit 0 (header_of bytes) → drawn_sheet stations edits bytes ≡ untouched stations edits (Field fault)

@@ -1,3 +1,4 @@
+pub mod Mapped
 pub mod Drawn
 pub mod ByTheBook
 pub mod Sheets

@@ -1,7 +1,6 @@
 -- A sheet drawn on a new outline is what the book says: the fault of the first thing wrong, or the figures and the cost of the points that stand.
-use Rattle.std.proofs.Common.{◌≡◌, ℕ, ◌≤◌, Bool, List, [], ◌∷◌, length, Some, None, Ok, Err, Option, Result, sym, refl, ap, ◌∙◌, arith}
+use Rattle.std.proofs.Common.{◌≡◌, ℕ, ◌≤◌, Bool, List, [], ◌∷◌, length, Some, None, Ok, Err, Option, Result, sym, refl, ap, ◌∙◌}
 use lib.Ieee.{Float}
-use Rattle.std.specs.Result.{result_map_both}
 use Rattle.surface.specs.declared.refusals.Refusal.{Refusal}
 use Rattle.area.specs.declared.Winding.{Winding}
 use Rattle.polygon.specs.Polygons.{Solve, closing_edge, figures_of}
@@ -13,7 +12,7 @@ use Rattle.history.specs.declared.Sizes.{Sizes}
 use Rattle.history.specs.declared.Frame.{Frame}
 use Rattle.history.specs.declared.Measurement.{Measurement}
 use Rattle.history.specs.declared.Call.TheVariants.{Measure}
-use Rattle.history.specs.declared.Answer.TheVariants.{Measured}
+use Rattle.history.specs.declared.Done.TheVariants.{Measured}
 use Rattle.history.specs.Calls.{measure_of, measure_answer, open_refusal, opened, lengths_of}
 use Rattle.history.specs.Book.{Book}
 use Rattle.history.specs.Histories.{refusal_in, computed}
@@ -26,25 +25,21 @@ use Rattle.packed.specs.declared.faults.SheetFault.TheVariants.{Outline}
 use Rattle.packed.specs.declared.sheets.Header.{Header}
 use Rattle.drawing.specs.declared.Drawing.{Drawing}
 use Rattle.drawing.specs.Strokes.{Strokes, edits_drawn}
-use Rattle.drawing.specs.Sketches.{blank_sheet, Course, course_of, drawing_of, unless_fault, Sheet, unless_refused, sheet_after, sheet_on, Fresh}
+use Rattle.drawing.specs.Sketches.{blank_sheet, Course, course_of, drawing_of, unless_fault, Sheet, sheet_left, unless_refused, sheet_after, sheet_on, Fresh}
 use Rattle.drawing.proofs.ByTheBook.{answer_of, Took, took_course}
 
 -- ---- results carried on
 
-pub mapped_ok : {A B C : Type 0} (g : B → C) (r : Result A B) (x : A) → Ok x ≡ result_map_both (λ v. v) g r → r ≡ Ok x
-mapped_ok g (Ok y) x is = let same : x ≡ y = cc in ap Ok (sym same)
-mapped_ok g (Err e) x is = let z : ◌≡◌ {A = ℕ} 0 1 = cc in absurd (omega arith)
-
-pub mapped_err : {A B C : Type 0} (g : B → C) (r : Result A B) (fault : C) → Err fault ≡ result_map_both (λ v. v) g r → (e : B) × (r ≡ Err e) × (fault ≡ g e)
-mapped_err g (Ok y) fault is = let z : ◌≡◌ {A = ℕ} 0 1 = cc in absurd (omega arith)
-mapped_err g (Err e) fault is = let same : fault ≡ g e = cc in (e, refl, same)
+pub same_sheet : {r : Result Drawing SheetFault} {row : List Station} {notes : List EditRecord} (x : Sheet) → r ≡ x.answer → row ≡ x.stations → notes ≡ x.edits → sheet_left r row notes ≡ x
+same_sheet {r} {row} {notes} x answer stations edits =
+    ap (λ r. sheet_left r row notes) answer ∙ ap (λ l. sheet_left x.answer l notes) stations ∙ ap (sheet_left x.answer x.stations) edits
 
 fault_is : (o : Option SheetFault) (cost : Cost) (fault : SheetFault) → answer_of o cost ≡ Err fault → o ≡ Some fault
 fault_is (Some g) cost fault is = let same : g ≡ fault = cc in ap Some same
-fault_is None cost fault is = let z : ◌≡◌ {A = ℕ} 0 1 = cc in absurd (omega arith)
+fault_is None cost fault is = absurd (cc)
 
 cost_is : (o : Option SheetFault) (cost spent : Cost) → answer_of o cost ≡ Ok spent → (o ≡ None) × (cost ≡ spent)
-cost_is (Some g) cost spent is = let z : ◌≡◌ {A = ℕ} 0 1 = cc in absurd (omega arith)
+cost_is (Some g) cost spent is = absurd (cc)
 cost_is None cost spent is = let same : cost ≡ spent = cc in (refl, same)
 
 -- ---- a measure of what follows the book
@@ -55,10 +50,10 @@ module _ (edge : Solve) (whole : Float) (winding : Winding) (opening : Sizes) (b
       let right = call_right edge whole winding opening b f stations edits bound r (Measure sign) in
       let refused : refusal_in (measure_answer (measure_of edge whole f stations edits sign)) ≡ Some e = ap (λ (m : Result Measurement Refusal). refusal_in (measure_answer m)) is in
       let none : None ≡ Some e = sym right.refusal ∙ refused in
-      let z : ◌≡◌ {A = ℕ} 0 1 = cc in omega arith
+      cc
 
   module _ (m : Measurement) (is : measure_of edge whole f stations edits sign ≡ Ok m) where
-    answers : measure_answer (measure_of edge whole f stations edits sign) ≡ Measured m
+    answers : measure_answer (measure_of edge whole f stations edits sign) ≡ Ok (Measured m)
     answers = ap measure_answer is
 
     figures : (m.figures ≡ computed edge whole winding sign b.standing) × (m.figures ≡ figures_of edge whole winding sign b.standing)

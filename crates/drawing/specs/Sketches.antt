@@ -107,6 +107,9 @@ pub record Sheet : Type 0 where
   pub stations : List Station
   pub edits : List EditRecord
 
+abbrev pub sheet_left : Result Drawing SheetFault → List Station → List EditRecord → Sheet
+sheet_left answer stations edits = record { answer = answer; stations = stations; edits = edits }
+
 module _ (stations : List Station) (edits : List EditRecord) where
   -- nothing is drawn
   abbrev pub untouched : SheetFault → Sheet

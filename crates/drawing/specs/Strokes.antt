@@ -10,7 +10,7 @@ use Rattle.stations.specs.Stations.{together}
 use Rattle.history.specs.declared.Frame.{Frame}
 use Rattle.history.specs.declared.Call.{Call}
 use Rattle.history.specs.declared.Call.TheVariants as calls
-use Rattle.history.specs.Calls.{done_of}
+use Rattle.history.specs.Calls.{Left, done_of}
 use Rattle.history.specs.Histories.{refusal_in}
 use Rattle.history.specs.Expenses.{cost_in}
 use Rattle.packed.specs.declared.faults.EditFault.{EditFault}
@@ -31,11 +31,8 @@ call_of TakeBack = calls.TakeBack
 -- ---- one edit
 
 -- what drawing an edit answers (its cost, and where the next edit begins) and leaves
-pub record Stroke : Type 0 where
-  pub answer : Result (Cost × ℕ) SheetFault
-  pub frame : Frame
-  pub stations : List Station
-  pub edits : List EditRecord
+abbrev pub Stroke : Type 0
+Stroke = Left (Result (Cost × ℕ) SheetFault)
 
 -- a refused call is a fault of the edit with this number, at its first bit
 abbrev pub stroke_answer : ℕ → ℕ → ℕ → Option Refusal → Cost → Result (Cost × ℕ) SheetFault
@@ -61,11 +58,8 @@ edit_drawn edge whole bytes number at f stations edits = stroke_of edge whole nu
 -- ---- the edits
 
 -- what drawing edits answers (their cost) and leaves
-pub record Strokes : Type 0 where
-  pub answer : Result Cost SheetFault
-  pub frame : Frame
-  pub stations : List Station
-  pub edits : List EditRecord
+abbrev pub Strokes : Type 0
+Strokes = Left (Result Cost SheetFault)
 
 -- what is drawn after an edit, unless it was a fault
 abbrev pub gone_on : Stroke → Result (Cost × ℕ) SheetFault → (Cost → ℕ → Strokes) → Strokes

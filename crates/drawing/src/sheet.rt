@@ -1,16 +1,15 @@
 // A whole sheet: its header, its edits and its figures.
 ghost use Rattle.std.specs.Prelude.{◌≡◌, IfOk, Ok as Read};
-ghost use Rattle.std.specs.Result.{result_map_both};
 ghost use Rattle.history.specs.Calls.{lengths_of};
 ghost use Rattle.packed.specs.declared.sheets.Header.{Header as Heading};
 ghost use Rattle.packed.specs.declared.faults.SheetFault.TheVariants.{Outline as Off};
 ghost use Rattle.packed.specs.Sheets.{header_of};
 ghost use Rattle.outline.specs.WholeRule.{WholeRule};
-ghost use Rattle.drawing.specs.Sketches.{sheet_on, drawn_sheet, Fresh, ListLaw};
+ghost use Rattle.drawing.specs.Sketches.{sheet_left, sheet_on, drawn_sheet, Fresh, ListLaw};
 ghost use Rattle.drawing.specs.Surfaces.{edges_on, whole_on, Stand};
 
 use crate::Drawing;
-use crate::strokes::{draw_edits, plus};
+use crate::strokes::draw_edits;
 use functions::SeriesSet;
 use geodesic::Geodesic;
 use outline::Outline;
@@ -18,17 +17,14 @@ use packed::{Header, SheetFault, SurfaceKind, in_edit, read_header};
 use stations::{EditRecord, Station};
 use surface::{Plate, Refusal, Surface};
 
-// What was made outside the edits, or its refusal as a fault of the header.
-fn in_header<T>(made: Result<T, Refusal>) -> Result<T, SheetFault>
-    ensures { result ≡ result_map_both (λ value. value) (λ refusal. Off 0 0 refusal) made }
+// A refusal outside the edits, as a fault of the header, which is told as edit 0 at bit 0.
+fn in_header(refusal: Refusal) -> SheetFault
+    ensures { result ≡ Off 0 0 refusal }
 {
-    match made {
-        Ok(value) => Ok(value),
-        Err(refusal) => Err(SheetFault::Outline {
-            edit: 0,
-            bit: 0,
-            refusal,
-        }),
+    SheetFault::Outline {
+        edit: 0,
+        bit: 0,
+        refusal,
     }
 }
 
@@ -40,22 +36,18 @@ fn draw_on<S: Surface + Drop>(
     stations: &mut [Station],
     edits: &mut [EditRecord],
 ) -> Result<Drawing, SheetFault>
-    ensures answer { result ≡ (sheet_on stations.old edits.old (S.edges surface) (S.whole surface) bytes.now header).answer }
-    ensures stations { stations.new ≡ (sheet_on stations.old edits.old (S.edges surface) (S.whole surface) bytes.now header).stations }
-    ensures edits { edits.new ≡ (sheet_on stations.old edits.old (S.edges surface) (S.whole surface) bytes.now header).edits }
+    ensures left { sheet_left result stations.new edits.new ≡ sheet_on stations.old edits.old (S.edges surface) (S.whole surface) bytes.now header }
     ensures fresh { IfOk result (λ d. Fresh (S.edges surface) (S.whole surface) (lengths_of stations.old edits.old) bytes.now header d) }
 {
-    let mut outline = in_header(Outline::open(
-        surface,
-        header.winding,
-        stations.len(),
-        edits.len(),
-    ))?;
+    let opened = Outline::open(surface, header.winding, stations.len(), edits.len());
+    let mut outline = opened.map_err(in_header)?;
     let spent = draw_edits(&mut outline, stations, edits, bytes, header.edits)?;
-    let closing = in_header(outline.measure(stations, edits, header.signed))?;
+    let closing = outline
+        .measure(stations, edits, header.signed)
+        .map_err(in_header)?;
     Ok(Drawing {
         figures: closing.figures,
-        cost: plus(spent, closing.cost),
+        cost: spent + closing.cost,
     })
 }
 
@@ -67,9 +59,7 @@ pub fn draw(
     stations: &mut [Station],
     edits: &mut [EditRecord],
 ) -> Result<Drawing, SheetFault>
-    ensures answer { result ≡ (drawn_sheet stations.old edits.old bytes.now).answer }
-    ensures stations { stations.new ≡ (drawn_sheet stations.old edits.old bytes.now).stations }
-    ensures edits { edits.new ≡ (drawn_sheet stations.old edits.old bytes.now).edits }
+    ensures left { sheet_left result stations.new edits.new ≡ drawn_sheet stations.old edits.old bytes.now }
     ensures fresh { (header : Heading) → header_of bytes.now ≡ Read header → IfOk result (λ d. Fresh (edges_on header.surface) (whole_on header.surface) (lengths_of stations.old edits.old) bytes.now header d) }
     ensures listed { ListLaw }
     ensures surfaces { Stand }
@@ -78,11 +68,11 @@ pub fn draw(
     let header = in_edit(0, read_header(bytes))?;
     match header.surface {
         SurfaceKind::Wgs84 => {
-            let ellipsoid = in_header(Geodesic::wgs84(SeriesSet))?;
+            let ellipsoid = Geodesic::wgs84(SeriesSet).map_err(in_header)?;
             draw_on(ellipsoid, header, bytes, stations, edits)
         }
         SurfaceKind::Plate => {
-            let plate = in_header(Plate::new(1.0))?;
+            let plate = Plate::new(1.0).map_err(in_header)?;
             draw_on(plate, header, bytes, stations, edits)
         }
     }

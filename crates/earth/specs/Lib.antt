@@ -1,1 +1,3 @@
 pub mod Wgs84
+pub mod Numbers
+pub mod Grounds

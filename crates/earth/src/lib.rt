@@ -1,5 +1,5 @@
 // The WGS84 ellipsoid over the series set: its constants, which need not be reckoned again, its edges
-// and its whole area.
+// and its whole area. Outlines are drawn on it, or on a plate.
 #![tactic(auto)]
 
 ghost use Rattle.std.specs.Prelude.{◌≡◌};
@@ -8,9 +8,12 @@ ghost use Rattle.ellipsoid.specs.Ellipsoids.{whole_of};
 ghost use Rattle.geodesic.specs.Answers.{edge_of};
 ghost use Rattle.earth.specs.Wgs84 as Definitions;
 
+mod grounds;
+
 use ellipsoid::capability::POLYGONAREA_MASK;
 use ellipsoid::shape::{Ellipsoid, WGS84_A, WGS84_F};
 use functions::SeriesSet;
+pub use grounds::Ground;
 use inverse::_gen_inverse;
 use surface::Edge;
 
@@ -76,17 +79,19 @@ static WGS84: Ellipsoid = Ellipsoid {
 };
 
 // The constants of the ellipsoid.
+#[tactic(auto, using(crate::specs::Numbers::wgs84_is))]
 pub fn wgs84() -> &'static Ellipsoid
     ensures { result.now ≡ Definitions.wgs84 }
 {
     &WGS84
 }
 
-// An edge of an outline on the ellipsoid.
+// An edge of an outline on the ellipsoid. The argument list is that of `Surface::edge`.
+#[tactic(auto, unfolding(geodesic::specs::Answers::edge_of))]
 pub fn wgs84_edge(lat1: f64, lon1: f64, lat2: f64, lon2: f64) -> Edge
     ensures { result ≡ edge_of series Definitions.wgs84 lat1 lon1 lat2 lon2 }
 {
-    let r = _gen_inverse(
+    _gen_inverse(
         &SeriesSet,
         wgs84(),
         lat1,
@@ -94,12 +99,8 @@ pub fn wgs84_edge(lat1: f64, lon1: f64, lat2: f64, lon2: f64) -> Edge
         lat2,
         lon2,
         POLYGONAREA_MASK,
-    );
-    Edge {
-        s12: r.s12,
-        S12: r.S12,
-        evaluations: r.evaluations,
-    }
+    )
+    .into()
 }
 
 // The whole area of the ellipsoid.

@@ -2,60 +2,60 @@
 // figures of a measure stand those of a new polygon that is fed the standing points alone.
 #![tactic(auto)]
 
+ghost use Rattle.std.specs.Prelude.{Some};
+ghost use Rattle.edits.specs.Counts.{counted_text};
+
 use anyhow::anyhow;
 use area::Winding;
-use functions::SeriesSet;
-use geodesic::Geodesic;
-use history::{Call, Sizes};
-use notebook::{Ground, Notebook, same_figures};
-use outline::{Answer, Cost, EditRecord, Outline, Station};
-use polygon::{Figures, Point};
-use script::{Entry, read};
-use std::env;
-use std::io::Read;
-use surface::{Plate, Surface};
-use text::{Pattern, decimal, split_line};
+use earth::Ground;
+use history::{Call, Done, Measurement, Sizes};
+use notebook::{Desk, same_figures};
+use polygon::Figures;
+use script::read;
+use stations::Cost;
+use std::{env, fmt, io};
+use surface::Plate;
+use text::{Pattern, decimal, lines};
 
-const STATIONS: u16 = 1024;
-
-const EDITS: u16 = 256;
+const LENGTHS: Sizes = Sizes {
+    stations: 1024,
+    edits: 256,
+};
 
 const USAGE: &str = "usage: edits [-k K] < calls";
 
-// The WGS84 ellipsoid, or the plate whose scale stands after -k.
-fn read_ground(rt: &HostRuntime) -> anyhow::Result<Ground> {
-    let mut ground = Ground::Wgs84;
-    let mut scale_next = false;
-    for word in env::args(rt)?.skip(1) {
-        if scale_next {
-            let Some(scale) = decimal(word.as_str()) else {
-                return Err(anyhow!("the scale after -k is not a number"));
-            };
-            ground = Ground::Sheet(scale);
-            scale_next = false;
-        } else if word.as_str() == "-k" {
-            scale_next = true;
-        } else {
+// The scale that stands after -k, if there is one.
+fn read_scale(rt: &HostRuntime) -> anyhow::Result<Option<f64>> {
+    let mut scale = None;
+    let mut words = env::args(rt)?.skip(1);
+    while let Some(word) = words.next() {
+        if word.as_str() != "-k" {
             return Err(anyhow!(USAGE));
         }
+        let Some(after) = words.next() else {
+            return Err(anyhow!("-k wants a scale after it"));
+        };
+        let Some(number) = decimal(after.as_str()) else {
+            return Err(anyhow!("the scale after -k is not a number"));
+        };
+        scale = Some(number);
     }
-    if scale_next {
-        return Err(anyhow!("-k wants a scale after it"));
-    }
-    Ok(ground)
+    Ok(scale)
 }
 
-// An outline with its rows, and the notebook beside it.
-#[derive(Drop)]
-struct Desk<S> {
-    outline: Outline<S>,
-    stations: Vec<Station>,
-    edits: Vec<EditRecord>,
-    notebook: Notebook,
-    ground: Ground,
+// The WGS84 ellipsoid, or the plate of the scale.
+fn read_ground(rt: &HostRuntime) -> anyhow::Result<Ground> {
+    let Some(scale) = read_scale(rt)? else {
+        return Ok(Ground::Earth);
+    };
+    match Plate::new(scale) {
+        Ok(plate) => Ok(Ground::Sheet(plate)),
+        Err(refusal) => Err(anyhow!(format!(in rt.alloc(); "plate refused {refusal}")?)),
+    }
 }
 
-// What is told of a call that was not refused.
+// What is told of a call that was not refused. Not a Display: one of `Call` would be `history`'s, for
+// all programs.
 fn done(call: Call) -> &'static str {
     match call {
         Call::Add { .. } => "added",
@@ -66,21 +66,28 @@ fn done(call: Call) -> &'static str {
     }
 }
 
-fn plural(count: u32) -> &'static str {
-    if count == 1 { "" } else { "s" }
+// How many there are of a thing, by its name for one.
+#[derive(Clone, Copy, PartialEq, Eq, Hash, Debug)]
+struct Counted(u32, &'static str);
+
+impl fmt::Display for Counted {
+    ghost output = { λ c. Some (counted_text c) };
+
+    fn fmt<W: fmt::Write>(&self, f: &mut fmt::Formatter<W>) -> fmt::Result {
+        let ending = if self.0 == 1 { "" } else { "s" };
+        write!(f, "{} {}{ending}", self.0, self.1)
+    }
 }
 
 fn print_cost(rt: &HostRuntime, number: usize, call: Call, cost: Cost) -> anyhow::Result<()> {
     let what = done(call);
-    let Cost { edges, evaluations } = cost;
-    let edge_ending = plural(edges);
-    let ending = plural(evaluations);
-    println!(rt;
-        "line {number}: {what}, {edges} edge{edge_ending}, {evaluations} evaluation{ending}"
-    )?;
+    let edges = Counted(cost.edges, "edge");
+    let evaluations = Counted(cost.evaluations, "evaluation");
+    println!(rt; "line {number}: {what}, {edges}, {evaluations}")?;
     Ok(())
 }
 
+// Not the lines of `planimeter`: each tells whose it is.
 fn print_figures(rt: &HostRuntime, whose: &str, figures: Figures) -> anyhow::Result<()> {
     let Figures {
         perimeter,
@@ -88,8 +95,11 @@ fn print_figures(rt: &HostRuntime, whose: &str, figures: Figures) -> anyhow::Res
         count,
     } = figures;
     println!(rt; "  {whose} points {count}")?;
-    println!(rt; "  {whose} perimeter {perimeter} {}", Pattern(perimeter))?;
-    println!(rt; "  {whose} area {area} {}", Pattern(area))?;
+    println!(rt;
+        "  {whose} perimeter {perimeter} {}",
+        Pattern::from(perimeter)
+    )?;
+    println!(rt; "  {whose} area {area} {}", Pattern::from(area))?;
     Ok(())
 }
 
@@ -107,39 +117,16 @@ fn print_both(rt: &HostRuntime, drawn: Figures, anew: Figures) -> anyhow::Result
 }
 
 // Makes a call, and tells its answer.
-fn make<S: Surface>(
-    rt: &HostRuntime,
-    desk: &mut Desk<S>,
-    number: usize,
-    call: Call,
-) -> anyhow::Result<()> {
-    let lengths = Sizes {
-        stations: STATIONS,
-        edits: EDITS,
-    };
-    let answer = desk.outline.make(
-        desk.stations.as_mut_slice(),
-        desk.edits.as_mut_slice(),
-        call,
-    );
-    let _ = desk.notebook.follow(lengths, lengths, call)?;
+fn make(rt: &HostRuntime, desk: &mut Desk, number: usize, call: Call) -> anyhow::Result<()> {
+    let (answer, _) = desk.make(desk.lengths(), call)?;
     match answer {
-        Answer::Refused(refusal) => {
-            let why = refusal.number();
-            println!(rt; "line {number}: refused {why}")?;
-        }
-        Answer::Edited(cost) => print_cost(rt, number, call, cost)?,
-        Answer::Measured(measurement) => {
-            print_cost(rt, number, call, measurement.cost)?;
-            let sign = match call {
-                Call::Measure { sign } => sign,
-                _ => true,
-            };
-            match desk
-                .ground
-                .figures(Winding::CounterClockwise, sign, desk.notebook.standing())
-            {
-                Ok(anew) => print_both(rt, measurement.figures, anew)?,
+        Err(refusal) => println!(rt; "line {number}: refused {refusal}")?,
+        Ok(Done::Edited(cost)) => print_cost(rt, number, call, cost)?,
+        Ok(Done::Measured(Measurement { figures, cost })) => {
+            print_cost(rt, number, call, cost)?;
+            let sign = matches!(call, Call::Measure { sign: true });
+            match desk.anew(sign) {
+                Ok(anew) => print_both(rt, figures, anew)?,
                 Err(_) => println!(rt; "  polygon refused")?,
             }
         }
@@ -148,63 +135,23 @@ fn make<S: Surface>(
 }
 
 // Reads the calls line by line.
-fn trace<S: Surface>(rt: &HostRuntime, desk: &mut Desk<S>, text: &str) -> anyhow::Result<()> {
-    let mut number: usize = 0;
-    let mut rest = text;
-    while !rest.is_empty() {
-        let (line, after) = split_line(rest);
-        rest = after;
-        number = number.saturating_add(1);
+fn trace(rt: &HostRuntime, desk: &mut Desk, text: &str) -> anyhow::Result<()> {
+    for (number, line) in (1..).zip(lines(text)) {
         match read(line) {
-            Entry::Remark => {}
-            Entry::Unreadable => println!(rt; "line {number}: not a call")?,
-            Entry::Asked(call) => make(rt, desk, number, call)?,
+            Ok(None) => {}
+            Ok(Some(call)) => make(rt, desk, number, call)?,
+            Err(why) => println!(rt; "line {number}: {why}")?,
         }
     }
     Ok(())
 }
 
-// Draws on a surface.
-fn draw<S: Surface + Drop>(rt: &HostRuntime, surface: S, ground: Ground) -> anyhow::Result<()> {
-    let heap = rt.alloc();
-    let mut text = String::new(heap);
-    rt.stdin().read_to_string(&mut text)?;
-    let nowhere = Station::first(Point { lat: 0.0, lon: 0.0 });
-    let stations = vec![in heap; nowhere; STATIONS as usize]?;
-    let edits = vec![in heap; EditRecord::added(0); EDITS as usize]?;
-    let Ok(outline) = Outline::open(
-        surface,
-        Winding::CounterClockwise,
-        stations.len(),
-        edits.len(),
-    ) else {
-        return Err(anyhow!("the rows are refused"));
-    };
-    let mut desk = Desk {
-        outline,
-        stations,
-        edits,
-        notebook: Notebook::new(heap),
-        ground,
-    };
-    trace(rt, &mut desk, text.as_str())
-}
-
 fn run(rt: &HostRuntime) -> anyhow::Result<()> {
     let ground = read_ground(rt)?;
-    match ground {
-        Ground::Sheet(scale) => match Plate::new(scale) {
-            Ok(plate) => draw(rt, plate, ground),
-            Err(refusal) => {
-                let why = refusal.number();
-                Err(anyhow!(format!(in rt.alloc(); "plate refused {why}")?))
-            }
-        },
-        Ground::Wgs84 => match Geodesic::wgs84(SeriesSet) {
-            Ok(ellipsoid) => draw(rt, ellipsoid, ground),
-            Err(_) => Err(anyhow!("the ellipsoid is refused")),
-        },
-    }
+    let heap = rt.alloc();
+    let text = io::read_to_string(heap, rt.stdin())?;
+    let mut desk = Desk::open(heap, ground, Winding::CounterClockwise, LENGTHS)?;
+    trace(rt, &mut desk, &text)
 }
 
 fn main(rt: HostRuntime) -> anyhow::Result<()> {

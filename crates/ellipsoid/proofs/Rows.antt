@@ -1,5 +1,5 @@
 -- Values read row by row from a table: one more is put behind those that stand, and its row is passed over in the table.
-use Rattle.std.proofs.Common.{◌≡◌, ℕ, suc, ◌+◌, ◌-◌, ◌*◌, ◌<◌, ◌≤◌, List, [], ◌∷◌, ◌++◌, length, get_or, take, drop, set, sym, ap, ◌∙◌, append_assoc, arith, take_all, drop-drop}
+use Rattle.std.proofs.Common.{◌≡◌, ℕ, suc, ◌+◌, ◌<◌, ◌≤◌, List, [], ◌∷◌, ◌++◌, length, get_or, take, drop, set, sym, ap, ◌∙◌, append_assoc, take_all, drop-drop}
 use lib.Ieee.{Float}
 use Rattle.std.proofs.lemmas.List.{append-nil, take_more_set, drop_more, drop_all}
 use Rattle.floats.specs.Arithmetic.{◌⊗◌}
@@ -39,9 +39,6 @@ pub rows_all : (x : Float) (t c whole : List Float) (ds : List ℕ) (o k : ℕ) 
 unfolding rows_of
 rows_all x t c whole ds o k h g s = put_all c (rows_of x (drop o t) (drop k ds)) whole k h (ap (rows_of x (drop o t)) (drop_all k ds g)) s
 
-pub rows_passed : (o k m : ℕ) → m < 256 → o ≤ 257 * k → o + (m + 2) ≤ 257 * (k + 1)
-rows_passed o k m h b = omega arith
-
 -- ---- rows that shorten by one
 
 triangle_more : (x p : Float) (t : List Float) (o n m : ℕ) → n ≡ suc m
@@ -63,12 +60,3 @@ triangle_put x p v t c whole o l n m e h q s =
 pub triangle_all : (x p : Float) (t c whole : List Float) (l n : ℕ) → n ≡ 0 → length c ≤ l → take l c ++ triangle x p t n ≡ whole → c ≡ whole
 unfolding triangle
 triangle_all x p t c whole l n e h s = put_all c (triangle x p t n) whole l h (ap (triangle x p t) e) s
-
-pub triangle_left : (n l : ℕ) → l < n → n - l ≡ suc (n - l - 1)
-triangle_left n l h = omega arith
-
-pub triangle_passed : (o n l : ℕ) → n ≤ 6 → o ≤ 6 * l → o + (n - l - 1 + 1) ≤ 6 * (l + 1)
-triangle_passed o n l h b = omega arith
-
-pub triangle-next : (n l : ℕ) → n - l - 1 ≡ n - (l + 1)
-triangle-next n l = omega arith

@@ -3,7 +3,7 @@ use Rattle.std.specs.Prelude.{Bool, false, cond, not, ◌&&◌, Float}
 use Rattle.std.specs.Float.Ieee.{neg}
 use Rattle.std.specs.Float.{float_with_sign}
 use Rattle.functions.specs.Sets.{Funcs}
-use Rattle.floats.specs.Arithmetic.{◌⊕◌, ◌⊗◌, ◌≺◌, ◌≻◌, ◌≗◌}
+use Rattle.floats.specs.Arithmetic.{◌⊕◌, ◌⊖◌, ◌⊗◌, ◌≺◌, ◌≻◌, ◌≗◌}
 use Rattle.floats.specs.Choices.{larger_of}
 use Rattle.geomath.specs.Angles.{zero, one, square, quarter_turn}
 use Rattle.series.specs.Degrees.{sind, cosd, radians}
@@ -47,6 +47,20 @@ matched E sbet1 cbet1 sbet2 cbet2 =
 
 unfoldable pub ends_of : Funcs → Ellipsoid → Float → Float → Ends
 ends_of F E lat1 lat2 = matched E (sin_reduced F E lat1) (cos_reduced F E lat1) (sin_reduced F E lat2) (cos_reduced F E lat2)
+
+-- sine and cosine of β2 - β1
+unfoldable pub sin_difference : Ends → Float
+sin_difference e = e.sbet2 ⊗ e.cbet1 ⊖ e.cbet2 ⊗ e.sbet1
+
+abbrev pub cos_difference : Ends → Float
+cos_difference e = e.cbet2 ⊗ e.cbet1 ⊕ e.sbet2 ⊗ e.sbet1
+
+-- sine and cosine of β2 + β1
+unfoldable pub sin_sum : Ends → Float
+sin_sum e = e.sbet2 ⊗ e.cbet1 ⊕ e.cbet2 ⊗ e.sbet1
+
+abbrev pub cos_sum : Ends → Float
+cos_sum e = e.cbet2 ⊗ e.cbet1 ⊖ e.sbet2 ⊗ e.sbet1
 
 -- λ12 in radians with its sine and cosine; beyond a quarter turn these are taken from what is left of a half turn
 unfoldable pub difference_of : Funcs → Float → Float → Difference

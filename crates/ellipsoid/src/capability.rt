@@ -1,4 +1,5 @@
-// Which figures of an inverse problem are wanted: a mask with a bit for each.
+// Which figures of an inverse problem are wanted: a mask with a bit for each, the u64 of the crate and
+// of the C interface.
 ghost use Rattle.std.specs.Prelude.{◌≡◌};
 ghost use Rattle.ellipsoid.specs.Capabilities.{wants};
 
@@ -15,6 +16,7 @@ pub const CAP_C4: u64 = 1 << 4;
 pub const CAP_ALL: u64 = 0x1F;
 
 pub const OUT_ALL: u64 = 0x7F80;
+
 // With LONG_UNROLL.
 pub const OUT_MASK: u64 = 0xFF80;
 
@@ -37,12 +39,15 @@ pub const GEODESICSCALE: u64 = (1 << 13) | CAP_C1 | CAP_C2;
 pub const AREA: u64 = (1 << 14) | CAP_C4;
 
 pub const LONG_UNROLL: u64 = 1 << 15;
+
 // Without LONG_UNROLL.
 pub const ALL: u64 = OUT_ALL | CAP_ALL;
+
 // What an outline asks of its edges.
 pub const POLYGONAREA_MASK: u64 = LATITUDE | LONGITUDE | DISTANCE | AREA | LONG_UNROLL;
 
 // Whether one of the figures is wanted.
+#[tactic(auto, unfolding(crate::specs::Capabilities::wants))]
 pub fn wanted(mask: u64, figures: u64) -> bool
     ensures { result ≡ wants mask figures }
 {

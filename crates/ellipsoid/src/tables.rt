@@ -1,6 +1,6 @@
 // The tables of coefficients of A3, C3 and C4: in each row the coefficients of a polynomial in the
 // third flattening n, highest power first, and then their common divisor.
-ghost use Rattle.std.specs.Prelude.{◌≡◌, ◌≤◌, length};
+ghost use Rattle.std.specs.Prelude.{◌≡◌, ◌≤◌};
 ghost use Rattle.ellipsoid.specs.Tables.{rows_of, coeff_a3, coeff_c3, coeff_c4, degrees_a3, degrees_c3, degrees_c4};
 
 use series::row;
@@ -26,7 +26,7 @@ const COEFF_C4: [f64; 77] = [
     -3328.0, 1144.0, 315315.0, -128.0, 135135.0, -2560.0, 832.0, 405405.0, 128.0, 99099.0,
 ];
 
-// The degree of each row of a table.
+// The degree of each row of a table, told beside it: the tables themselves are the crate's.
 const DEGREES_A3: [u8; 6] = [0, 1, 2, 2, 1, 0];
 
 const DEGREES_C3: [u8; 15] = [0, 1, 2, 2, 1, 0, 1, 2, 2, 0, 1, 2, 0, 1, 0];
@@ -35,22 +35,24 @@ const DEGREES_C4: [u8; 21] = [
     0, 1, 2, 3, 4, 5, 0, 1, 2, 3, 4, 0, 1, 2, 3, 0, 1, 2, 0, 1, 0,
 ];
 
-// The rows of a table at x, read from a place that steps on by each row's length.
-fn rows<const N: usize>(table: &[f64], degrees: &[u8], x: f64) -> [f64; N]
-    requires { (N ≤ 21) × (length degrees.now ≡ N) }
+// The rows of a table at x, read from a place that steps on by each row's length. A degree goes by its
+// index, since a proof knows nothing of what is written behind a zip of `iter_mut()`.
+fn rows<const N: usize>(table: &[f64], degrees: &[u8; N], x: f64) -> [f64; N]
+    requires { N ≤ 21 }
     ensures { result ≡ rows_of x table.now degrees.now }
 {
     let mut values = [0.0; N];
     let mut o: usize = 0;
-    for k in 0..N {
+    for (k, value) in values.iter_mut().enumerate() {
         let m = degrees[k] as usize;
-        values[k] = row(table, o, m, x);
+        *value = row(table, o, m, x);
         o += m + 2;
     }
     values
 }
 
-// The coefficients of A3 in powers of ε.
+// The coefficients of A3 in powers of ε; one function for each table, as `_A3coeff`, `_C3coeff` and
+// `_C4coeff` in the crate.
 pub fn a3_coefficients(n: f64) -> [f64; 6]
     ensures { result ≡ rows_of n coeff_a3 degrees_a3 }
 {

@@ -1,8 +1,8 @@
 -- To differ by whole turns is an equivalence that respects sums and signs, and a number has one reduced form.
 use Rattle.std.proofs.Common.{◌≡◌, ℕ, ◌+◌, ◌*◌, ◌<◌, ◌≤◌, ◌⊎◌, ℤ, pos, ◌+ℤ◌, neg_ℤ, ◌≤ℤ◌, ◌<ℤ◌, sym, ap, ◌∙◌, subst, inl, inr, mul-le-mul_right, suc-mul, add-mul, eq-or-lt_of_le, one-mul, zero-mul, arith}
+use Rattle.std.proofs.lemmas.Bool.{cases_lt}
 use Rattle.std.proofs.lemmas.Int.{ints}
 use Rattle.exact.specs.Congruent.{Congruent, Reduced}
-use Rattle.exact.proofs.Naturals.{le_or_lt}
 use Rattle.exact.proofs.Integers.{≤ℤ_or_<ℤ}
 
 module _ (F : ℕ) where
@@ -59,12 +59,12 @@ more_turns m n F l = subst (λ (k : ℕ). k ≤ n * F) (suc-mul m F) (mul-le-mul
 
 pub reduced_once : (h : ℕ) (x y : ℤ) → Congruent (h + h) x y → neg_ℤ (pos h) <ℤ x → x ≤ℤ pos h → neg_ℤ (pos h) <ℤ y → y ≤ℤ pos h → x ≡ y
 reduced_once h x y c xl xu yl yu =
-    elim (le_or_lt c.more c.less) [
-      | inl le ↦ elim (eq-or-lt_of_le le) [
+    elim (cases_lt c.less c.more) [
+      | inr le ↦ elim (eq-or-lt_of_le le) [
         | inl e ↦ level (c.less * (h + h)) x y (ap (λ (k : ℕ). x +ℤ pos (k * (h + h))) (sym e) ∙ c.is)
         | inr lt ↦ absurd (apart h (c.less * (h + h)) (c.more * (h + h)) y x yl xu (sym c.is) (more_turns c.more c.less (h + h) lt))
       ]
-      | inr lt ↦ absurd (apart h (c.more * (h + h)) (c.less * (h + h)) x y xl yu c.is (more_turns c.less c.more (h + h) lt))
+      | inl lt ↦ absurd (apart h (c.more * (h + h)) (c.less * (h + h)) x y xl yu c.is (more_turns c.less c.more (h + h) lt))
     ]
 
 pub reduced_unique : (h : ℕ) (z r s : ℤ) → Reduced h z r → Reduced h z s → r ≡ s

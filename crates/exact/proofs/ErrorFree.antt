@@ -1,6 +1,7 @@
 -- A sum is its rounded value and an error of p digits, and six operations find that error exactly. Where |v| ≤ |u|, R (u + v) - u has p digits (Dekker),
 -- so that each step of the six is exact in each of three cases: |u| ≤ |v|; |v| < |u| and |v| ≤ |s|; and |s| < |v| < |u|, where u + v itself is exact. R is `rounded_z p` and s is R (u + v).
-use Rattle.std.proofs.Common.{◌≡◌, ℕ, suc, ◌+◌, ◌-◌, ◌*◌, ◌^◌, ◌<◌, ◌≤◌, ℤ, pos, ◌+ℤ◌, ◌-ℤ◌, neg_ℤ, nat_abs, sym, ap, ◌∙◌, subst, inl, inr, le_trans, le_of_eq, le_refl, lt_of_lt_of_le, lt_of_le_of_lt, le_of_lt, mul-le-mul_right, mul-le-mul_left, le_of_mul-le-mul_right, arith, pow_pos, pow_mono, pow-add, shl_lt}
+use Rattle.std.proofs.Common.{◌≡◌, ℕ, suc, ◌+◌, ◌-◌, ◌*◌, ◌^◌, ◌<◌, ◌≤◌, ℤ, pos, ◌+ℤ◌, ◌-ℤ◌, neg_ℤ, nat_abs, sym, ap, ◌∙◌, subst, inl, inr, le_trans, le_of_eq, le_refl, lt_of_lt_of_le, lt_of_le_of_lt, le_of_lt, mul-le-mul_right, mul-le-mul_left, le_of_mul-le-mul_right, arith, pow_pos, pow_mono, pow-add, shl_lt, suc-mul}
+use Rattle.std.proofs.lemmas.Bool.{cases_lt}
 use native.Mathlib.Nat.{two-pow-succ}
 use lib.IntN.{+ℤ_comm}
 use lib.Ieee.{size}
@@ -9,8 +10,9 @@ use lib.Ieee.Fits.{two-le_pos}
 use lib.Ieee.Nearest.{closest}
 use Rattle.std.proofs.lemmas.Int.{ints}
 use Rattle.exact.specs.Rounded.{rounded, rounded_z, Rep, RepZ}
-use Rattle.exact.proofs.Naturals.{le_or_lt, rep_zero, rounded-low, unit, Multiple, multiple_of_power}
-use Rattle.exact.proofs.Integers.{rep_neg, unsigned_abs_neg, unsigned_abs_rounded, rounded_z_rep, rounded_z_exact, rounded_z_nearest, rounded_z-half-place, multiple_plus, multiple_minus, multiple_rounded, rep_multiple, rep_of_multiple, fine}
+use Rattle.exact.proofs.Naturals.{rep_zero, rounded-low, unit, Multiple, multiple_of_power}
+use Rattle.exact.proofs.Integers.{rep_neg, unsigned_abs_rounded, rounded_z_rep, rounded_z_exact, rounded_z_nearest, rounded_z-half-place, multiple_plus, multiple_minus, multiple_rounded, rep_multiple, rep_of_multiple, fine}
+use Rattle.exact.proofs.Signs.{unsigned_abs_neg}
 
 rep_at : (p : ℕ) (y z : ℤ) → y ≡ z → RepZ p y → RepZ p z
 rep_at p y z e r = subst (λ (x : ℤ). RepZ p x) e r
@@ -51,9 +53,9 @@ aligned : (p u v : ℕ) (r : Rep p u) → Rep p v → v ≤ u → Aligned p r.pl
 aligned p u v r s h =
     let i = r.places in
     let j = s.places in
-    elim (le_or_lt j i) [
-      | inl l ↦ record { rep = s; low = l }
-      | inr l ↦
+    elim (cases_lt i j) [
+      | inr l ↦ record { rep = s; low = l }
+      | inl l ↦
           let e = s.is ∙ multiple_of_power s.digits j i (le_of_lt l) in
           record {
             rep = record {
@@ -71,13 +73,10 @@ one_more : (p t n : ℕ) (r : Rep p n) → r.places ≤ t → n + 2 ^ t ≤ 2 ^ 
 one_more p t n r h =
     let d = r.digits in
     go n (d * 2 ^ t) (2 ^ t) (2 ^ p * 2 ^ t) (le_trans (le_of_eq r.is) (mul-le-mul_left d (pow_mono h)))
-    (le_trans (le_of_eq (sym (suc_times d (2 ^ t)))) (mul-le-mul_right (2 ^ t) r.few))
+    (le_trans (le_of_eq (sym (suc-mul d (2 ^ t)))) (mul-le-mul_right (2 ^ t) r.few))
   where
     go : (n x u y : ℕ) → n ≤ x → x + u ≤ y → n + u ≤ y
     go n x u y h k = omega arith
-
-    suc_times : (d u : ℕ) → suc d * u ≡ d * u + u
-    suc_times d u = omega arith
 
 by_parts : (u v s : ℤ) → nat_abs (s -ℤ u) ≤ nat_abs v + nat_abs (s -ℤ (u +ℤ v))
 by_parts u v s = omega (arith, ints)
@@ -144,13 +143,13 @@ dekker_aligned p u v P r s l h =
     let k = size (nat_abs (u +ℤ v)) - p in
     let i = r.places in
     let j = s.places in
-    elim (le_or_lt k j) [
-      | inl g ↦
+    elim (cases_lt j k) [
+      | inr g ↦
           rep_at p v (rounded_z p (u +ℤ v) -ℤ u)
           (back_to_right u v (rounded_z p (u +ℤ v)) (rounded_z_exact p (u +ℤ v) P (kept_whole p u v P r s (le_trans g l) g))) s
-      | inr g ↦ elim (le_or_lt k i) [
-        | inl m ↦ dekker_at p k u v P r s m (le_of_lt g) (le_refl k) (next k)
-        | inr m ↦ dekker_at p i u v P r s (le_refl i) l (le_of_lt m) (sum_digits p u v r h)
+      | inl g ↦ elim (cases_lt i k) [
+        | inr m ↦ dekker_at p k u v P r s m (le_of_lt g) (le_refl k) (next k)
+        | inl m ↦ dekker_at p i u v P r s (le_refl i) l (le_of_lt m) (sum_digits p u v r h)
       ]
     ]
   where
@@ -221,9 +220,9 @@ whole_right_smaller p u v P r t h k =
 small_sum : (p : ℕ) (u v : ℤ) → 0 < p → RepZ p u → RepZ p v → nat_abs v ≤ nat_abs u → nat_abs (rounded_z p (u +ℤ v)) < nat_abs v → RepZ p (u +ℤ v)
 small_sum p u v P r t h k =
     let n = nat_abs (u +ℤ v) in
-    let l : n ≤ nat_abs v = elim (le_or_lt n (nat_abs v)) [
-      | inl l ↦ l
-      | inr l ↦ clash (nat_abs v) (rounded p n) (rounded-low p (nat_abs v) n P t (le_of_lt l)).0 (subst (λ (x : ℕ). x < nat_abs v) (unsigned_abs_rounded p (u +ℤ v)) k)
+    let l : n ≤ nat_abs v = elim (cases_lt (nat_abs v) n) [
+      | inr l ↦ l
+      | inl l ↦ clash (nat_abs v) (rounded p n) (rounded-low p (nat_abs v) n P t (le_of_lt l)).0 (subst (λ (x : ℕ). x < nat_abs v) (unsigned_abs_rounded p (u +ℤ v)) k)
     ] in
     fine p u v (u +ℤ v) r t (λ (j : ℕ) (x : Multiple (2 ^ j) (nat_abs u)) (y : Multiple (2 ^ j) (nat_abs v)). multiple_plus (2 ^ j) u v x y) (le_trans l h) l
   where
@@ -245,11 +244,11 @@ whole_small_sum p u v P r t h k =
 
 whole_always : (p : ℕ) (u v : ℤ) → 0 < p → RepZ p u → RepZ p v → Whole p u v (rounded_z p (u +ℤ v)) (rounded_z p (rounded_z p (u +ℤ v) -ℤ v))
 whole_always p u v P r t =
-    elim (le_or_lt (nat_abs u) (nat_abs v)) [
-      | inl h ↦ whole_left_smaller p u v P r t h
-      | inr h ↦ elim (le_or_lt (nat_abs v) (nat_abs (rounded_z p (u +ℤ v)))) [
-        | inl k ↦ whole_right_smaller p u v P r t (le_of_lt h) k
-        | inr k ↦ whole_small_sum p u v P r t (le_of_lt h) k
+    elim (cases_lt (nat_abs v) (nat_abs u)) [
+      | inr h ↦ whole_left_smaller p u v P r t h
+      | inl h ↦ elim (cases_lt (nat_abs (rounded_z p (u +ℤ v))) (nat_abs v)) [
+        | inr k ↦ whole_right_smaller p u v P r t (le_of_lt h) k
+        | inl k ↦ whole_small_sum p u v P r t (le_of_lt h) k
       ]
     ]
 

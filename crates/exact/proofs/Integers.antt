@@ -1,30 +1,25 @@
 -- The laws of rounding on numbers with a sign, carried over from natural numbers by the sign; and `fine`: a number no larger than two others, in every unit that they share, has as few digits as they have.
-use Rattle.std.proofs.Common.{◌≡◌, ℕ, zero, suc, ◌+◌, ◌-◌, ◌*◌, ◌^◌, ◌<◌, ◌≤◌, ◌⊎◌, ℤ, pos, negsuc, ◌+ℤ◌, ◌-ℤ◌, neg_ℤ, nat_abs, ◌≤ℤ◌, ◌<ℤ◌, sym, refl, ap, ◌∙◌, subst, inl, inr, le_trans, le_of_eq, le_refl, lt_of_le_of_lt, le_of_lt, mul_comm, add-mul, zero-mul, le_of_mul-le-mul_right, arith, pow_pos}
+use Rattle.std.proofs.Common.{◌≡◌, ℕ, zero, suc, ◌+◌, ◌-◌, ◌*◌, ◌^◌, ◌<◌, ◌≤◌, ◌⊎◌, ℤ, pos, negsuc, ◌+ℤ◌, ◌-ℤ◌, neg_ℤ, nat_abs, ◌≤ℤ◌, ◌<ℤ◌, sym, refl, ap, ◌∙◌, subst, inl, inr, le_trans, le_of_eq, le_refl, lt_of_le_of_lt, le_of_lt, mul_comm, add-mul, zero-mul, le_of_mul-le-mul_right, arith, pow_pos, zero-le}
+use Rattle.std.proofs.Math.Arith.{le-zero}
+use Rattle.std.proofs.lemmas.Bool.{cases_lt}
 use native.Mathlib.Nat.{mul-sub}
 use lib.IntN.{neg_ℤ-neg_ℤ}
 use Rattle.std.proofs.lemmas.Int.{ints, by_lt_z}
 use Rattle.exact.specs.Rounded.{rounded, rounded_z, Rep, RepZ}
-use Rattle.exact.proofs.Naturals.{le_or_lt, rep_zero, rep_small, rep_scaled, rounded-low, rounded-high, rounded_rep, rounded_exact, rounded_mono, rounded_scaled, rounded_relative, rounded_relative_result, rounded-half-place, closest-high, unit, distance, Multiple, multiple_of_power}
+use Rattle.exact.proofs.Signs.{unsigned_abs_neg}
+use Rattle.exact.proofs.Naturals.{rep_zero, rep_small, rep_scaled, rounded-low, rounded-high, rounded_rep, rounded_exact, rounded_mono, rounded_scaled, rounded_relative, rounded_relative_result, rounded-half-place, closest-high, unit, distance, Multiple, multiple_of_power}
 
 -- ---- signs
 
-pub unsigned_abs_neg : (z : ℤ) → nat_abs (neg_ℤ z) ≡ nat_abs z
-unsigned_abs_neg (pos zero) = refl
-unsigned_abs_neg (pos (suc n)) = refl
-unsigned_abs_neg (negsuc n) = refl
-
 pub rep_neg : (p : ℕ) (z : ℤ) → RepZ p z → RepZ p (neg_ℤ z)
 rep_neg p z r = subst (λ (x : ℕ). Rep p x) (sym (unsigned_abs_neg z)) r
-
-no_less : (a : ℕ) → a ≤ 0 → a ≡ 0
-no_less a h = omega arith
 
 pub rounded-zero : (p : ℕ) → rounded p 0 ≡ 0
 unfolding rounded
 rounded-zero p =
     let u = unit p 0 in
     let z = zero-mul u in
-    no_less (rounded p 0) (le_trans (closest-high 0 u 0 (pow_pos _) (le_of_eq (sym z))).0 (le_of_eq z))
+    le-zero (le_trans (closest-high 0 u 0 (pow_pos _) (le_of_eq (sym z))).0 (le_of_eq z))
 
 pub rounded_z-neg : (p : ℕ) (z : ℤ) → rounded_z p (neg_ℤ z) ≡ neg_ℤ (rounded_z p z)
 unfolding rounded_z
@@ -62,13 +57,10 @@ from_pos m n h = omega (arith, ints)
 from_negsuc : (m n : ℕ) → negsuc m ≤ℤ negsuc n → suc n ≤ suc m
 from_negsuc m n h = omega (arith, ints)
 
-at_least_zero : (n : ℕ) → 0 ≤ n
-at_least_zero n = omega arith
-
 pub rounded_z-low : (p : ℕ) (a z : ℤ) → 0 < p → RepZ p a → a ≤ℤ z → (a ≤ℤ rounded_z p z) × ((rounded_z p z +ℤ a) ≤ℤ (z +ℤ z))
 unfolding rounded_z
 rounded_z-low p (pos m) (pos n) P r h = low_both m n (rounded p n) (rounded-low p m n P r (from_pos m n h))
-rounded_z-low p (negsuc m) (pos n) P r h = low_apart m n (rounded p n) (rounded-low p 0 n P (rep_zero p) (at_least_zero n)).1
+rounded_z-low p (negsuc m) (pos n) P r h = low_apart m n (rounded p n) (rounded-low p 0 n P (rep_zero p) zero-le).1
 rounded_z-low p (pos m) (negsuc n) P r h = absurd h.le
 rounded_z-low p (negsuc m) (negsuc n) P r h = low_negative m n (rounded p (suc n)) (rounded-high p (suc m) (suc n) P r (from_negsuc m n h))
 
@@ -232,7 +224,7 @@ pub fine : (p : ℕ) (a b d : ℤ) → RepZ p a → RepZ p b → ((j : ℕ) → 
 fine p a b d r s shared h k =
     let i = r.places in
     let j = s.places in
-    elim (le_or_lt i j) [
-      | inl l ↦ rep_below p (nat_abs a) (nat_abs d) r (shared i (rep_multiple p i (nat_abs a) r (le_refl i)) (rep_multiple p i (nat_abs b) s l)) h
-      | inr l ↦ rep_below p (nat_abs b) (nat_abs d) s (shared j (rep_multiple p j (nat_abs a) r (le_of_lt l)) (rep_multiple p j (nat_abs b) s (le_refl j))) k
+    elim (cases_lt j i) [
+      | inr l ↦ rep_below p (nat_abs a) (nat_abs d) r (shared i (rep_multiple p i (nat_abs a) r (le_refl i)) (rep_multiple p i (nat_abs b) s l)) h
+      | inl l ↦ rep_below p (nat_abs b) (nat_abs d) s (shared j (rep_multiple p j (nat_abs a) r (le_of_lt l)) (rep_multiple p j (nat_abs b) s (le_refl j))) k
     ]

@@ -15,3 +15,4 @@ pub mod Commutes
 pub mod Congruent
 pub mod TwoSum
 pub mod Products
+pub mod Rests

@@ -1,7 +1,9 @@
 -- On natural numbers: no number of p digits on either side of n is nearer to n than the rounded number is (rounded-low, rounded-high).
 -- These two are all that 'nearest' means, and the other laws follow from them by linear steps; only the law on scaling looks at the definition again.
-use Rattle.std.proofs.Common.{◌≡◌, ℕ, suc, ◌+◌, ◌-◌, ◌*◌, ◌/◌, ◌%◌, ◌^◌, ◌<◌, ◌≤◌, Bool, true, false, not, T, eqb, leb, ◌⊎◌, sym, refl, ap, ◌∙◌, subst, inl, inr, le_trans, le_of_eq, le_refl, lt_of_lt_of_le, lt_of_le_of_lt, le_of_lt, mul-le-mul_right, mod-lt, mul_assoc, mul_comm, add-mul, le_antisymm, eq-or-lt_of_le, mul-le-mul_left, one-mul, div-add-mod', le-div_iff_mul-le, mul-one, sub-add_cancel, arith, eqb→eq, leb→le, pow_pos, pow_mono, pow-add, shl_lt}
+use Rattle.std.proofs.Common.{◌≡◌, ℕ, suc, ◌+◌, ◌-◌, ◌*◌, ◌/◌, ◌%◌, ◌^◌, ◌<◌, ◌≤◌, not, T, eqb, ◌⊎◌, sym, refl, ap, ◌∙◌, subst, inl, inr, le_trans, le_of_eq, le_refl, lt_of_lt_of_le, lt_of_le_of_lt, le_of_lt, mul-le-mul_right, mod-lt, mul_assoc, mul_comm, add-mul, le_antisymm, eq-or-lt_of_le, mul-le-mul_left, one-mul, div-add-mod', le-div_iff_mul-le, mul-one, sub-add_cancel, arith, eqb→eq, leb→le, pow_pos, pow_mono, pow-add, shl_lt, suc-mul}
+use Rattle.std.proofs.lemmas.Bool.{cases_lt}
 use Prim.Native.Nat.{compare, Ordering}
+use borrow.Author.Count.{falls_down}
 use native.Mathlib.Nat.{mul-mod_right, two-pow-succ}
 use lib.Dec.{is_le, compare_is_eq, nleb→lt, eqb_refl}
 use lib.Arith.{lt_of_le-ne}
@@ -11,13 +13,6 @@ use lib.Ieee.Digits.{size-lt, size_reaches, size-le}
 use lib.Ieee.Fits.{nearest-le, kept-lt}
 use lib.Ieee.Nearest.{closest, nearest-ge, closest_same}
 use Rattle.exact.specs.Rounded.{rounded, Rep}
-
-pub le_or_lt : (a b : ℕ) → (a ≤ b) ⊎ (b < a)
-le_or_lt a b = go (leb a b) (leb→le a b) (nleb→lt a b)
-  where
-    go : (t : Bool) → (T t → a ≤ b) → (T (not t) → b < a) → (a ≤ b) ⊎ (b < a)
-    go true h k = inl (h tt)
-    go false h k = inr (k tt)
 
 -- ---- numbers of p digits
 
@@ -62,16 +57,13 @@ cmp a b = go (compare a b) (leb→le a b) (nleb→lt a b) (eqb→eq a b) (λ (e 
     go Ordering.gt h k e n = k tt
 
 -- the whole part w and the remainder r of a number in units of u
-suc_times : (w u : ℕ) → suc w * u ≡ w * u + u
-suc_times w u = omega arith
-
 nearest_at_most : (w u r : ℕ) (o : Ordering) → Cmp o (r * 2) u → nearest w o * u ≤ w * u + 2 * r
 nearest_at_most w u r Ordering.lt c = omega arith
-nearest_at_most w u r Ordering.eq c = go (w * u) (mul-le-mul_right u (nearest-le w Ordering.eq)) (suc_times w u)
+nearest_at_most w u r Ordering.eq c = go (w * u) (mul-le-mul_right u (nearest-le w Ordering.eq)) (suc-mul w u)
   where
     go : (x : ℕ) → (w + w % 2) * u ≤ suc w * u → suc w * u ≡ x + u → (w + w % 2) * u ≤ x + 2 * r
     go x h e = omega arith
-nearest_at_most w u r Ordering.gt c = go (w * u) (suc w * u) (suc_times w u)
+nearest_at_most w u r Ordering.gt c = go (w * u) (suc w * u) (suc-mul w u)
   where
     go : (x y : ℕ) → y ≡ x + u → y ≤ x + 2 * r
     go x y e = omega arith
@@ -85,7 +77,7 @@ nearest_at_least w u r Ordering.eq h c = go (w * u) ((w + w % 2) * u) (mul-le-mu
   where
     go : (x y : ℕ) → x ≤ y → x + 2 * r ≤ y + u
     go x y l = omega arith
-nearest_at_least w u r Ordering.gt h c = go (w * u) (suc w * u) (suc_times w u)
+nearest_at_least w u r Ordering.gt h c = go (w * u) (suc w * u) (suc-mul w u)
   where
     go : (x y : ℕ) → y ≡ x + u → x + 2 * r ≤ y + u
     go x y e = omega arith
@@ -113,12 +105,12 @@ closest-high n u m U h =
     let w = n / u in
     let o = compare (n % u * 2) u in
     let c = cmp (n % u * 2) u in
-    elim (le_or_lt m w) [
-      | inl k ↦
+    elim (cases_lt w m) [
+      | inr k ↦
           above_at_whole n (w * u) (n % u) (nearest w o * u) (m * u) (div-add-mod' n u) (nearest_at_most w u (n % u) o c) (mul-le-mul_right u (nearest-ge w o)) h (mul-le-mul_right u k)
-      | inr k ↦ (
+      | inl k ↦ (
         mul-le-mul_right u (le_trans (nearest-le w o) k),
-        above_then_sum n (w * u) (n % u) u (nearest w o * u) (m * u) (div-add-mod' n u) (nearest_at_least w u (n % u) o (mod-lt n U) c) (le_trans (le_of_eq (sym (suc_times w u))) (mul-le-mul_right u k)),
+        above_then_sum n (w * u) (n % u) u (nearest w o * u) (m * u) (div-add-mod' n u) (nearest_at_least w u (n % u) o (mod-lt n U) c) (le_trans (le_of_eq (sym (suc-mul w u))) (mul-le-mul_right u k)),
       )
     ]
 
@@ -151,9 +143,9 @@ on_grid_or_below : (p a n : ℕ) → 0 < p → Rep p a → Multiple (unit p n) a
 on_grid_or_below p a n P r =
     let k = size n - p in
     let i = r.places in
-    elim (le_or_lt k i) [
-      | inl h ↦ inl (record { times = r.digits * 2 ^ (i - k); is = r.is ∙ multiple_of_power r.digits i k h })
-      | inr h ↦
+    elim (cases_lt i k) [
+      | inr h ↦ inl (record { times = r.digits * 2 ^ (i - k); is = r.is ∙ multiple_of_power r.digits i k h })
+      | inl h ↦
           inr (
             lt_of_le_of_lt (le_of_eq r.is)
                 (lt_of_lt_of_le (shl_lt p i r.few) (le_trans (pow_mono (room p i k P h)) (le_of_eq (pow-add 2 (p - 1) k)))),
@@ -214,11 +206,11 @@ pub rounded_mono : (p m n : ℕ) → 0 < p → m ≤ n → rounded p m ≤ round
 rounded_mono p m n P h =
     let a = rounded p m in
     let b = rounded p n in
-    elim (le_or_lt a n) [
-      | inl l ↦ (rounded-low p a n P (rounded_rep p m P) l).0
-      | inr l ↦ elim (le_or_lt m b) [
-        | inl g ↦ (rounded-high p b m P (rounded_rep p n P) g).0
-        | inr g ↦
+    elim (cases_lt n a) [
+      | inr l ↦ (rounded-low p a n P (rounded_rep p m P) l).0
+      | inl l ↦ elim (cases_lt b m) [
+        | inr g ↦ (rounded-high p b m P (rounded_rep p n P) g).0
+        | inl g ↦
             le_of_eq (ap (rounded p)
             (same_sum a b m n (rounded-low p b m P (rounded_rep p n P) (le_of_lt g)).1 (rounded-high p a n P (rounded_rep p m P) (le_of_lt l)).1 h))
       ]
@@ -234,16 +226,13 @@ has_digits n z e h l = go n (subst (λ (x : ℕ). n < 2 ^ x) e h) l
 
 pub size_pos : (n : ℕ) → 0 < n → 0 < size n
 size_pos n h =
-    elim (le_or_lt (size n) 0) [
-      | inl z ↦ absurd (has_digits n (size n) (le_antisymm z (omega arith)) (size-lt n) h)
-      | inr l ↦ l
+    elim (cases_lt 0 (size n)) [
+      | inr z ↦ absurd (has_digits n (size n) (le_antisymm z (omega arith)) (size-lt n) h)
+      | inl l ↦ l
     ]
 
 one_less : (s z j : ℕ) → 0 < z → s < z + j → s ≤ z - 1 + j
 one_less s z j h l = omega arith
-
-last_below : (z : ℕ) → 0 < z → z - 1 < z
-last_below z h = omega arith
 
 pub size_scaled : (n j : ℕ) → 0 < n → size (n * 2 ^ j) ≡ size n + j
 size_scaled n j N =
@@ -251,11 +240,11 @@ size_scaled n j N =
     let s = size (n * 2 ^ j) in
     let Z = size_pos n N in
     le_antisymm (size-le (n * 2 ^ j) (z + j) (shl_lt z j (size-lt n)))
-    (elim (le_or_lt (z + j) s) [
-      | inl h ↦ h
-      | inr h ↦
+    (elim (cases_lt s (z + j)) [
+      | inr h ↦ h
+      | inl h ↦
           never_below (n * 2 ^ j) (2 ^ s) (2 ^ s) (size-lt (n * 2 ^ j)) (le_refl (2 ^ s))
-          (le_trans (pow_mono (one_less s z j Z h)) (le_trans (le_of_eq (pow-add 2 (z - 1) j)) (mul-le-mul_right (2 ^ j) (size_reaches n (z - 1) (last_below z Z)))))
+          (le_trans (pow_mono (one_less s z j Z h)) (le_trans (le_of_eq (pow-add 2 (z - 1) j)) (mul-le-mul_right (2 ^ j) (size_reaches n (z - 1) (falls_down z Z)))))
     ])
 
 pub rep_few_digits : (p n : ℕ) → size n ≤ p → Rep p n
@@ -282,11 +271,11 @@ scaled_grid p n j h =
 
 pub rounded_scaled : (p n j : ℕ) → 0 < p → rounded p (n * 2 ^ j) ≡ rounded p n * 2 ^ j
 rounded_scaled p n j P =
-    elim (le_or_lt (size n) p) [
-      | inl h ↦
+    elim (cases_lt p (size n)) [
+      | inr h ↦
           let r = rep_few_digits p n h in
           rounded_exact p (n * 2 ^ j) P (rep_scaled p n j r) ∙ ap (λ (x : ℕ). x * 2 ^ j) (sym (rounded_exact p n P r))
-      | inr h ↦ scaled_grid p n j h
+      | inl h ↦ scaled_grid p n j h
     ]
 
 -- ---- how far the rounded number is
@@ -304,7 +293,7 @@ rounded-half-place p n =
     let o = compare (n % u * 2) u in
     let c = cmp (n % u * 2) u in
     half_place n (w * u) (n % u) u (nearest w o * u) (div-add-mod' n u) (nearest_at_most w u (n % u) o c) (nearest_at_least w u (n % u) o (mod-lt n U) c)
-    (mul-le-mul_right u (nearest-ge w o)) (le_trans (mul-le-mul_right u (nearest-le w o)) (le_of_eq (suc_times w u)))
+    (mul-le-mul_right u (nearest-ge w o)) (le_trans (mul-le-mul_right u (nearest-le w o)) (le_of_eq (suc-mul w u)))
 
 -- one part in 2 ^ p of any m that is at least the first number with as many digits as n
 scaled_up : (x y u q : ℕ) → 2 * x ≤ 2 * y + u → 2 * (x * q) ≤ 2 * (y * q) + u * q
@@ -342,18 +331,18 @@ unmoved x y m e = omega arith
 
 pub rounded_relative : (p n : ℕ) → 0 < p → (rounded p n * 2 ^ p ≤ n * 2 ^ p + n) × (n * 2 ^ p ≤ rounded p n * 2 ^ p + n)
 rounded_relative p n P =
-    elim (le_or_lt (size n) p) [
-      | inl h ↦ unmoved (n * 2 ^ p) (rounded p n * 2 ^ p) n (ap (λ (x : ℕ). x * 2 ^ p) (rounded_exact p n P (rep_few_digits p n h)))
-      | inr h ↦
+    elim (cases_lt p (size n)) [
+      | inr h ↦ unmoved (n * 2 ^ p) (rounded p n * 2 ^ p) n (ap (λ (x : ℕ). x * 2 ^ p) (rounded_exact p n P (rep_few_digits p n h)))
+      | inl h ↦
           part p n n (le_trans (le_of_eq (twice_first p n P)) (mul-le-mul_left 2 (first_reached p n 0 P (above_zero (size n) p h))))
     ]
 
 pub rounded_relative_result : (p n : ℕ) → 0 < p → (rounded p n * 2 ^ p ≤ n * 2 ^ p + rounded p n) × (n * 2 ^ p ≤ rounded p n * 2 ^ p + rounded p n)
 rounded_relative_result p n P =
     let y = rounded p n in
-    elim (le_or_lt (size n) p) [
-      | inl h ↦ unmoved (n * 2 ^ p) (y * 2 ^ p) y (ap (λ (x : ℕ). x * 2 ^ p) (rounded_exact p n P (rep_few_digits p n h)))
-      | inr h ↦
+    elim (cases_lt p (size n)) [
+      | inr h ↦ unmoved (n * 2 ^ p) (y * 2 ^ p) y (ap (λ (x : ℕ). x * 2 ^ p) (rounded_exact p n P (rep_few_digits p n h)))
+      | inl h ↦
           let b = 2 ^ (p - 1) * unit p n in
           let l : b ≤ n = first_reached p n 0 P (above_zero (size n) p h) in
           let r = rep_scaled p (2 ^ (p - 1)) (size n - p) (rep_power p (p - 1) P) in
@@ -431,9 +420,9 @@ farther_above a y n h l e g = omega arith
 
 pub rounded_strict : (p a n : ℕ) → 0 < p → Rep p a → n % 2 ≡ 1 → p + 1 < size n → ¬ (a ≡ rounded p n) → distance (rounded p n) n < distance a n
 rounded_strict p a n P r o z e =
-    elim (le_or_lt a n) [
-      | inl h ↦ farther_below a (rounded p n) n h (rounded_strict_low p a n P r o z h) e (rounded-low p a n P r h).0
-      | inr h ↦
+    elim (cases_lt n a) [
+      | inr h ↦ farther_below a (rounded p n) n h (rounded_strict_low p a n P r o z h) e (rounded-low p a n P r h).0
+      | inl h ↦
           let h : n ≤ a = le_of_lt h in
           farther_above a (rounded p n) n h (rounded_strict_high p a n P r o z h) e (rounded-high p a n P r h).0
     ]

@@ -1,5 +1,6 @@
 -- Comparisons of floats are comparisons of their exact values.
 use Rattle.std.proofs.Common.{◌≡◌, ℕ, zero, suc, ◌+◌, ◌*◌, ◌^◌, ◌<◌, Bool, true, false, ◌&&◌, ◌||◌, eqb, ltb, leb, ℤ, pos, negsuc, nat_abs, sym, refl, ap, ◌∙◌, zero-le, le_of_eq, le_of_lt, mul-pos, zero-add, zero-mul, arith, pow_pos, ltb-false, ltb-true, le-ltb, lt-ltb, eq-eqb, eqb-true, le-leb}
+use Rattle.std.proofs.Math.Bool.{and-true, and-false, and_self}
 use mathlib.Core.Bool.{beq}
 use lib.Arith.{lt_of_le-ne}
 use lib.Dec.{leb-suc-suc, eqb-zero-suc, eqb-suc-zero, eqb-suc-suc}
@@ -62,18 +63,6 @@ le_z_parts (negsuc a) (negsuc b) = parts a b
         go false false h k = sym (lt-leb n m (lt_of_le-ne (ltb-false n m h) (eqb-false m n k)))
 
 -- ---- sizes with signs
-and_true : (t : Bool) → (t && true) ≡ t
-and_true true = refl
-and_true false = refl
-
-and_false : (t : Bool) → (t && false) ≡ false
-and_false true = refl
-and_false false = refl
-
-both_tests : (t : Bool) → (t && (false || t)) ≡ t
-both_tests true = refl
-both_tests false = refl
-
 below_signed : (s t : Bool) (a b : ℕ) → below s a t b ≡ lt_z (signed s a) (signed t b)
 below_signed false false a b = refl
 below_signed false true a zero = sym (le-ltb a 0 zero-le)
@@ -86,16 +75,16 @@ below_signed true true (suc a) zero = lt-ltb 0 (suc a) (omega arith)
 below_signed true true (suc a) (suc b) = leb-suc-suc (suc b) a
 
 level_signed : (s t : Bool) (a b : ℕ) → level s a t b ≡ eq_z (signed s a) (signed t b)
-level_signed false false a b = and_true (eqb a b)
-level_signed false true a zero = both_tests (eqb a 0)
+level_signed false false a b = and-true (eqb a b)
+level_signed false true a zero = and_self (eqb a 0)
 level_signed false true zero (suc b) = ap (λ (t : Bool). t && (false || eqb 0 0)) (eqb-zero-suc b)
-level_signed false true (suc a) (suc b) = ap (λ (t : Bool). eqb (suc a) (suc b) && (false || t)) (eqb-suc-zero a) ∙ and_false (eqb (suc a) (suc b))
-level_signed true false zero b = and_true (eqb 0 b)
-level_signed true false (suc a) b = ap (λ (t : Bool). eqb (suc a) b && (false || t)) (eqb-suc-zero a) ∙ and_false (eqb (suc a) b)
+level_signed false true (suc a) (suc b) = ap (λ (t : Bool). eqb (suc a) (suc b) && (false || t)) (eqb-suc-zero a) ∙ and-false (eqb (suc a) (suc b))
+level_signed true false zero b = and-true (eqb 0 b)
+level_signed true false (suc a) b = ap (λ (t : Bool). eqb (suc a) b && (false || t)) (eqb-suc-zero a) ∙ and-false (eqb (suc a) b)
 level_signed true true zero zero = refl
-level_signed true true zero (suc b) = and_true (eqb 0 (suc b)) ∙ eqb-zero-suc b
-level_signed true true (suc a) zero = and_true (eqb (suc a) 0) ∙ eqb-suc-zero a
-level_signed true true (suc a) (suc b) = and_true (eqb (suc a) (suc b)) ∙ eqb-suc-suc a b
+level_signed true true zero (suc b) = and-true (eqb 0 (suc b)) ∙ eqb-zero-suc b
+level_signed true true (suc a) zero = and-true (eqb (suc a) 0) ∙ eqb-suc-zero a
+level_signed true true (suc a) (suc b) = and-true (eqb (suc a) (suc b)) ∙ eqb-suc-suc a b
 
 -- ---- any two floats
 below_scaled : (s t : Bool) (A B C a b L : ℕ) → 0 < C → 0 < L → A * L ≡ a * C → B * L ≡ b * C → below s A t B ≡ below s a t b

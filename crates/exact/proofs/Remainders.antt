@@ -1,5 +1,6 @@
 -- A remainder of floats is exact: it is a whole number of the units that both share, and no larger than the divisor.
 use Rattle.std.proofs.Common.{◌≡◌, ℕ, zero, suc, ◌-◌, ◌*◌, ◌%◌, ◌^◌, ◌<◌, ◌≤◌, Bool, true, false, cond, T, eqb, ℤ, pos, neg_ℤ, nat_abs, sym, refl, ap, ◌∙◌, subst, inl, inr, lt_of_lt_of_le, lt_of_le_of_lt, le_of_lt, lt_irrefl, mod-lt, mul-pos, pow_pos, ne_eqb}
+use Rattle.std.proofs.lemmas.Bool.{cases_lt}
 use native.Mathlib.Nat.{mod-le, zero-mod}
 use lib.Signed.{rem_z}
 use lib.Ieee.{Float, Format, nan, inf, fin, prec, low, up, down, round, rem, fits}
@@ -13,13 +14,13 @@ use Rattle.exact.proofs.Signs.{unsigned_abs_signed}
 use Rattle.exact.proofs.Scaled.{mod_times, scaled_rest}
 use Rattle.exact.proofs.Sums.{over_first, over_second, rounds_of}
 use Rattle.exact.proofs.Values.{is_rep, is_below}
-use Rattle.exact.proofs.Naturals.{le_or_lt, multiple_of_power}
+use Rattle.exact.proofs.Naturals.{multiple_of_power}
 use Rattle.exact.proofs.Roundings.{rounds_exact, round_kept}
 
 -- ---- on natural numbers
 -- with a = c * 2 ^ i and b = d * 2 ^ j, the remainder is a number of digits in the smaller of the two units
 pub rep_rest : (p a b : ℕ) → 0 < b → Rep p a → Rep p b → Rep p (a % b)
-rep_rest p a b B r t = elim (le_or_lt r.places t.places) [ inl h ↦ divided h | inr h ↦ divisor (le_of_lt h) ]
+rep_rest p a b B r t = elim (cases_lt t.places r.places) [ inr h ↦ divided h | inl h ↦ divisor (le_of_lt h) ]
   where
     c : ℕ
     c = r.digits

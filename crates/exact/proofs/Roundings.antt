@@ -8,7 +8,8 @@ use lib.Ieee.Nearest.{closest, closest_same}
 use Rattle.exact.specs.Rounded.{rounded, rounded_z, Rep, RepZ}
 use Rattle.exact.specs.Values.{signed, Is, Rounds}
 use Rattle.exact.proofs.Signs.{unsigned_abs_signed}
-use Rattle.exact.proofs.Naturals.{rep_zero, rounded-high, rounded_exact}
+use Rattle.exact.proofs.Integers.{rounded-zero}
+use Rattle.exact.proofs.Naturals.{rounded-high, rounded_exact}
 
 -- ---- `round` in units
 module _ (f : Format) (s : Bool) (n : ℕ) where
@@ -28,13 +29,10 @@ module _ (f : Format) (s : Bool) (n : ℕ) where
   round-has h = subst (λ (v : Float). HasValue v s (rounded (prec f) n) (2 ^ low f)) (sym round-units) (units_val f s (closest n (2 ^ (size n - prec f))) (size n - prec f) h)
 
 -- ---- from a rounding to an exact value
-rounded-zero : (p : ℕ) → 0 < p → rounded p 0 ≡ 0
-rounded-zero p P = rounded_exact p 0 P (rep_zero p)
-
 pub rounded_z-signed : (p : ℕ) (s : Bool) (n : ℕ) → 0 < p → rounded_z p (signed s n) ≡ signed s (rounded p n)
 unfolding rounded_z
 rounded_z-signed p false n P = refl
-rounded_z-signed p true zero P = ap pos (rounded-zero p P) ∙ ap (λ (k : ℕ). neg_ℤ (pos k)) (sym (rounded-zero p P))
+rounded_z-signed p true zero P = ap pos (rounded-zero p) ∙ ap (λ (k : ℕ). neg_ℤ (pos k)) (sym (rounded-zero p))
 rounded_z-signed p true (suc n) P = refl
 
 -- every format has digits

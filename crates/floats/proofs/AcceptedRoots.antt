@@ -40,6 +40,9 @@ normal_value b h =
     (subst (λ (x : ℕ). HasValue (of_fields binary64 false x (b % 2 ^ 52)) false (pattern_units b) (2 ^ 1074)) (sym field)
     (fields_value (b / 2 ^ 52 - 1) (b % 2 ^ 52) (omega arith)))
 
+plus_one : (a b : ℕ) → a < b → a + 1 ≤ b
+plus_one a b h = omega arith
+
 -- ---- over plain numbers: a number S of 53 digits beside r * u, u a power of two
 multiple_or_small : (S j : ℕ) → Rep 53 S → ((w : ℕ) × (S ≡ w * 2 ^ j)) ⊎ (S < 2 ^ 52 * 2 ^ j)
 multiple_or_small S j r =
@@ -48,16 +51,13 @@ multiple_or_small S j r =
     elim (cases_lt k j) [
       | inl l ↦
           inr (subst (λ (q : ℕ). q < 2 ^ 52 * 2 ^ j) (sym r.is)
-          (lt_of_lt_of_le (mul-lt-mul_of_pos_right r.few (pow_pos k)) (le_trans (le_of_eq (halved (2 ^ k) (2 ^ (k + 1)) (pow-add 2 k 1))) (mul-le-mul {n₁ = 2 ^ 52} {m₁ = 2 ^ (k + 1)} {n₂ = 2 ^ 52} (omega arith) (pow_mono (one_more k j l))))))
+          (lt_of_lt_of_le (mul-lt-mul_of_pos_right r.few (pow_pos k)) (le_trans (le_of_eq (halved (2 ^ k) (2 ^ (k + 1)) (pow-add 2 k 1))) (mul-le-mul {n₁ = 2 ^ 52} {m₁ = 2 ^ (k + 1)} {n₂ = 2 ^ 52} (omega arith) (pow_mono (plus_one k j l))))))
       | inr g ↦
           inl (d * 2 ^ (k - j), r.is ∙ ap (λ (q : ℕ). d * q) (ap (λ (e : ℕ). 2 ^ e) (sym (sub-add_cancel g)) ∙ pow-add 2 (k - j) j) ∙ sym (mul_assoc d (2 ^ (k - j)) (2 ^ j)))
     ]
   where
     halved : (v w : ℕ) → w ≡ v * 2 → 2 ^ 53 * v ≡ 2 ^ 52 * w
     halved v w e = omega arith
-
-    one_more : (k j : ℕ) → k < j → k + 1 ≤ j
-    one_more k j h = omega arith
 
 next_up : (S r j : ℕ) → Rep 53 S → 2 ^ 52 ≤ r → r * 2 ^ j < S → (r + 1) * 2 ^ j ≤ S
 next_up S r j R h l =
@@ -69,9 +69,6 @@ next_up S r j R h l =
       | inr s ↦ absurd (lt_irrefl S (lt_of_lt_of_le s (le_trans (mul-le-mul_right (2 ^ j) h) (less (r * 2 ^ j) S l))))
     ]
   where
-    plus_one : (a b : ℕ) → a < b → a + 1 ≤ b
-    plus_one a b h = omega arith
-
     less : (a b : ℕ) → a < b → a ≤ b
     less a b h = omega arith
 

@@ -1,37 +1,28 @@
 -- The law of the error-free sum at binary64, from the exact values of its six operations.
 use Rattle.std.proofs.Common.{◌≡◌, ℕ, ◌+◌, ◌*◌, ◌^◌, ◌<◌, ◌≤◌, T, ℤ, ◌+ℤ◌, ◌-ℤ◌, neg_ℤ, nat_abs, sym, ap, ◌∙◌, subst, arith, lit<}
 use Rattle.std.proofs.lemmas.Int.{ints}
+use lib.IntN.{+ℤ_comm}
 use lib.Ieee.{Float, binary64, prec, neg, fits}
 use lib.Ieee.Fits.{add-fits, neg-fits}
 use lib.Ieee.Scale.{overflow}
 use Rattle.exact.specs.Rounded.{rounded_z}
 use Rattle.exact.specs.Values.{Is}
 use Rattle.exact.proofs.Values.{finite_value, is_value, is_tested, neg_is}
-use Rattle.exact.proofs.Integers.{unsigned_abs_neg, rounded_z-neg}
+use Rattle.exact.proofs.Integers.{rounded_z-neg}
+use Rattle.exact.proofs.Signs.{unsigned_abs_neg}
 use Rattle.exact.proofs.Unique.{plain_same}
 use Rattle.exact.proofs.Commutes.{add_commutes}
 use Rattle.exact.proofs.TwoSum.{two-sum, Transformed}
+use Rattle.exact.proofs.Rests.{whole_sum, opposite_rest, roomy}
 use Rattle.floats.specs.Sums.{high, low, exactly, Moderate, ErrorFree}
 
 -- ---- sizes
-roomy : (a b m o : ℕ) → a ≤ m → b ≤ m → 4 * (m + m) < o → 4 * (a + b) < o
-roomy a b m o h k l = omega arith
-
 within : (z w : ℤ) → nat_abs z ≤ 2 ^ 2094 → nat_abs w ≤ 2 ^ 2094 → 4 * (nat_abs z + nat_abs w) < overflow binary64
 within z w h k = roomy (nat_abs z) (nat_abs w) (2 ^ 2094) (overflow binary64) h k (lit< tt)
 
 -- ---- whole numbers
-whole_sum : (t r : ℤ) → r +ℤ (t -ℤ r) ≡ t
-whole_sum t r = omega (arith, ints)
-
-order : (z w : ℤ) → w +ℤ z ≡ z +ℤ w
-order z w = omega (arith, ints)
-
 opposite_sum : (z w : ℤ) → neg_ℤ z +ℤ neg_ℤ w ≡ neg_ℤ (z +ℤ w)
 opposite_sum z w = omega (arith, ints)
-
-opposite_rest : (t r : ℤ) → neg_ℤ t -ℤ neg_ℤ r ≡ neg_ℤ (t -ℤ r)
-opposite_rest t r = omega (arith, ints)
 
 abbrev rounds : ℤ → ℤ
 rounds = rounded_z (prec binary64)
@@ -79,7 +70,7 @@ module _ (u v : Float) (F : T (fits binary64 u)) (G : T (fits binary64 v)) (m : 
     commutes_high = add_commutes binary64 v u;
     commutes_low =
         plain_same binary64 (low v u) (low u v) (total -ℤ rounds total) (fits_low v u) (fits_low u v)
-        (subst (λ (q : ℤ). Is binary64 (low v u) (q -ℤ rounds q)) (order (exactly u) (exactly v)) swapped.low) own.low;
+        (subst (λ (q : ℤ). Is binary64 (low v u) (q -ℤ rounds q)) (+ℤ_comm (exactly v) (exactly u)) swapped.low) own.low;
     mirrors_high =
         plain_same binary64 (high (neg u) (neg v)) (neg (high u v)) (neg_ℤ (rounds total)) (fits-high (neg u) (neg v)) (neg-fits binary64 (high u v) (fits-high u v))
         (subst (Is binary64 (high (neg u) (neg v))) mirrored_high opposite.high) (neg_is binary64 (high u v) (rounds total) own.high);

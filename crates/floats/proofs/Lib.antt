@@ -1,5 +1,4 @@
 pub mod Choices
-pub mod Polynomials
 pub mod WholeRoots
 pub mod NearestRoots
 pub mod Roots
@@ -8,4 +7,5 @@ pub mod Folds
 pub mod Rests
 pub mod Remainders
 pub mod ErrorFree
+pub mod Ranges
 mod Controls

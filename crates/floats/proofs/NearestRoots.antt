@@ -2,7 +2,7 @@
 use Rattle.std.proofs.Common.{◌≡◌, ℕ, zero, suc, ◌+◌, ◌*◌, ◌/◌, ◌%◌, ◌^◌, ◌<◌, ◌≤◌, sym, ap, ◌∙◌, subst, inl, inr, le_of_lt, eq-zero-or-pos, mul-lt-mul_of_pos_right, pow-suc, lt_of_not-le, arith}
 use lib.Ieee.{root_twice}
 use Rattle.exact.specs.Rounded.{rounded, Rep}
-use Rattle.floats.proofs.WholeRoots.{under_even, over_even, odd_or_whole}
+use Rattle.floats.proofs.WholeRoots.{strictly, under_even, over_even, odd_or_whole}
 use Rattle.exact.proofs.Naturals.{rep_small, rep_double, rounded-low, rounded-high, rounded_exact}
 
 -- ---- a whole root has no more digits than its square
@@ -54,15 +54,9 @@ too_far t R Y u h g = omega arith
 
 middle_under : (t R Y u : ℕ) → R * u < Y * u → 2 * t ≤ R * (4 * u) + Y * (4 * u) → (t ≡ 2 * ((R + Y) * u) → t ≡ R * (4 * u)) → t < 2 * ((R + Y) * u)
 middle_under t R Y u h g m = strictly (omega arith) (λ e. omega (arith, m e))
-  where
-    strictly : {a b : ℕ} → a ≤ b → (a ≡ b → ⊥) → a < b
-    strictly x y = omega arith
 
 middle_over : (t R Y u : ℕ) → Y * u < R * u → R * (4 * u) + Y * (4 * u) ≤ 2 * t → (t ≡ 2 * ((R + Y) * u) → t ≡ R * (4 * u)) → 2 * ((R + Y) * u) < t
-middle_over t R Y u h g m = strictly (omega arith) (λ e. omega (arith, m e))
-  where
-    strictly : {a b : ℕ} → b ≤ a → (a ≡ b → ⊥) → b < a
-    strictly x y = omega arith
+middle_over t R Y u h g m = strictly (omega arith) (λ e. omega (arith, m (sym e)))
 
 -- ---- twice the root of n rounds to R * (4 * u); Y is another number of p digits
 module _ (p n R u : ℕ) (P : 0 < p) (N : Rep p n) (U : 0 < u) (is : rounded p (root_twice n) ≡ R * (4 * u)) where

@@ -15,6 +15,7 @@ use Rattle.exact.proofs.Remainders.{rem_is}
 use Rattle.floats.specs.Arithmetic.{bits}
 use Rattle.floats.specs.Remainders.{zero as nought, ninety, folded_rest, folded_quotient, turned, zero_signed, rest_by90, quotient_by90, NearestRemainder}
 use Rattle.floats.proofs.Folds.{Mark, Folded, folds}
+use Rattle.floats.proofs.Rests.{plus_held}
 
 -- ---- over plain numbers: N is the size of x, H half of 90; k whole turns and n quarters are taken off
 taken : (N H k Z n : ℕ) → k * (8 * H) + Z ≡ N → pos N ≡ pos (4 * k + n) *ℤ pos (2 * H) +ℤ (pos Z -ℤ pos (n * 2 * H))
@@ -74,13 +75,6 @@ module _ (f : Format) where
   size_is nan F h = absurd h
   size_is (inf s) F h = absurd h
   size_is (fin s m e) F h = record { sign = false; has = (refl, (finite_is f (fin s m e) F tt).has.1); signs = refl }
-
-  size-held : (x : Float) → T (fits f x) → T (fits f (float_with_sign false x))
-  unfolding float_with_sign fits
-  size-held nan F = F
-  size-held (inf s) F = F
-  size-held (fin s zero e) F = F
-  size-held (fin s (suc m) e) F = F
 
   -- ---- a zero takes the sign t
   zero_is : (t : Bool) → Is f (fin t 0 (pos 0)) (pos 0)
@@ -182,11 +176,11 @@ turn_pos = lit< tt
 
 module _ (x : Float) (F : T (fits binary64 x)) (h : T (float_is_finite x)) where
   turned_is : Is binary64 (turned x) (pos (nat_abs (value binary64 x) % (8 * eighth)))
-  turned_is = rem_is binary64 (float_with_sign false x) (bits 0x4076800000000000) (pos (nat_abs (value binary64 x))) (pos (8 * eighth)) (size-held binary64 x F) mark360.held (size_is binary64 x F h) mark360.is turn_pos
+  turned_is = rem_is binary64 (float_with_sign false x) (bits 0x4076800000000000) (pos (nat_abs (value binary64 x))) (pos (8 * eighth)) (plus_held binary64 x F) mark360.held (size_is binary64 x F h) mark360.is turn_pos
 
   folded_is : Folded binary64 eighth (nat_abs (value binary64 x) % (8 * eighth)) (folded_rest (turned x)) (folded_quotient (turned x))
   folded_is =
-      folds binary64 eighth (nat_abs (value binary64 x) % (8 * eighth)) (turned x) (rem-fits binary64 (float_with_sign false x) (bits 0x4076800000000000) (size-held binary64 x F)) turned_is
+      folds binary64 eighth (nat_abs (value binary64 x) % (8 * eighth)) (turned x) (rem-fits binary64 (float_with_sign false x) (bits 0x4076800000000000) (plus_held binary64 x F)) turned_is
       (is_below binary64 (bits 0x4046800000000000) (pos eighth) mark45.held mark45.is)
       _ _ _ _ _ _ _ _ mark45 mark90 mark135 mark180 mark225 mark270 mark315 mark360 (mod-lt (nat_abs (value binary64 x)) turn_pos)
 

@@ -1,5 +1,6 @@
 -- What a size leaves over after whole multiples of another is exact: each difference is of two sizes of which the larger is at most twice the smaller. It is what `%` answers.
-use Rattle.std.proofs.Common.{◌≡◌, ℕ, zero, suc, ◌+◌, ◌-◌, ◌*◌, ◌/◌, ◌%◌, ◌^◌, ◌<◌, ◌≤◌, Bool, true, false, T, ltb, leb, ℤ, pos, ◌-ℤ◌, nat_abs, sym, refl, ap, ◌∙◌, subst, inl, inr, not, true≢false, mul_comm, mul_assoc, lt_irrefl, zero-mul, mul-pos, zero-lt-suc, pow_pos, mod-lt, div-add-mod', lt_of_le_of_lt, lt_of_lt_of_le, pow-suc, arith, ltb-true, ltb-false, leb-true, le-leb}
+use Rattle.std.proofs.Common.{◌≡◌, ℕ, zero, suc, ◌+◌, ◌-◌, ◌*◌, ◌/◌, ◌%◌, ◌^◌, ◌<◌, ◌≤◌, Bool, true, false, T, ltb, ℤ, pos, ◌-ℤ◌, nat_abs, sym, refl, ap, ◌∙◌, subst, inl, inr, not, true≢false, mul_comm, mul_assoc, lt_irrefl, zero-mul, mul-pos, zero-lt-suc, pow_pos, mod-lt, div-add-mod', lt_of_le_of_lt, lt_of_lt_of_le, pow-suc, arith, ltb-true, ltb-false, le-leb}
+use Rattle.std.proofs.lemmas.Bool.{cases_lt, lt-leb}
 use Rattle.std.proofs.Math.Nat.{add-mul-mod_self_left, mod-eq_of_lt}
 use Rattle.std.proofs.lemmas.Int.{ints}
 use lib.Ieee.{Float, Format, nan, inf, fin, binary64, prec, low, up, down, fits, is_nan, neg, add, sub, div, rem, lt, le, eq, of_bits}
@@ -9,7 +10,7 @@ use lib.Ieee.Scale.{overflow}
 use Rattle.std.specs.Float.{float_zero, float_is_finite, float_is_infinite, is_sign_negative, float_with_sign}
 use Rattle.exact.specs.Rounded.{Rep, rounded, rounded_z}
 use Rattle.exact.specs.Values.{signed, value, Is, Rounds}
-use Rattle.exact.proofs.Naturals.{le_or_lt, rep_double, rounded-low, rounded-high}
+use Rattle.exact.proofs.Naturals.{rep_double, rounded-low, rounded-high}
 use Rattle.exact.proofs.Values.{finite_is, finite_value, is_rep, is_below}
 use Rattle.exact.proofs.Unique.{same_sized}
 use Rattle.exact.proofs.Sums.{add_rounds, sub-rounds}
@@ -58,7 +59,7 @@ module _ (f : Format) where
   pub rem_sized : (x y : Float) (a b : ℕ) → 0 < b → Sized f x a → Sized f y b → Sized f (rem f x y) (a % b)
   rem_sized x y a b B s t = record { held = rem-fits f x y s.held; has = rem_has f x y false false a b (sized_rep x a s) (sized_rep y b t) (sized_below x a s) s.has t.has B }
 
-  plus_held : (x : Float) → T (fits f x) → T (fits f (float_with_sign false x))
+  pub plus_held : (x : Float) → T (fits f x) → T (fits f (float_with_sign false x))
   unfolding float_with_sign fits
   plus_held nan F = F
   plus_held (inf s) F = F
@@ -105,23 +106,13 @@ module _ (f : Format) where
         le_is f y (sub f r y) (pos b) (pos (rounded p (a - b))) (sized_is y b t) i ∙ le-leb b (rounded p (a - b)) least
 
     near : a < b + b → le y (sub f r y) ≡ false
-    near g = le_is f y (sub f r y) (pos b) (pos (a - b)) (sized_is y b t) (difference_is (omega arith)) ∙ lt-leb_false b (a - b) (omega arith)
-      where
-        lt-leb_false : (m n : ℕ) → n < m → leb m n ≡ false
-        lt-leb_false m n l = go (leb m n) refl
-          where
-            clash : m ≤ n → ⊥
-            clash k = omega arith
-
-            go : (w : Bool) → leb m n ≡ w → leb m n ≡ false
-            go true e = absurd (clash (leb-true m n e))
-            go false e = e
+    near g = le_is f y (sub f r y) (pos b) (pos (a - b)) (sized_is y b t) (difference_is (omega arith)) ∙ lt-leb b (a - b) (omega arith)
 
     pub at_most_twice : le y (sub f r y) ≡ false → a < b + b
-    at_most_twice e = elim (le_or_lt (b + b) a) [ inl g ↦ absurd (true≢false (sym (far g) ∙ e)) | inr g ↦ g ]
+    at_most_twice e = elim (cases_lt a (b + b)) [ inr g ↦ absurd (true≢false (sym (far g) ∙ e)) | inl g ↦ g ]
 
     pub at_least_twice : le y (sub f r y) ≡ true → b + b ≤ a
-    at_least_twice e = elim (le_or_lt (b + b) a) [ inl g ↦ g | inr g ↦ absurd (true≢false (sym e ∙ near g)) ]
+    at_least_twice e = elim (cases_lt a (b + b)) [ inr g ↦ g | inl g ↦ absurd (true≢false (sym e ∙ near g)) ]
 
   -- ---- twice a size
   plus_sign : (s : Bool) (n : ℕ) → 0 < n → signed s n ≡ pos n → s ≡ false
@@ -202,14 +193,14 @@ some_units y F h e =
     let i = finite_value binary64 y (subst T (sym F) tt) h in
     not_zero (value binary64 y) (eq_z_false (value binary64 y) (pos 0) (sym (eq_is binary64 y float_zero (value binary64 y) (pos 0) i (sized_is binary64 float_zero 0 zero_sized)) ∙ e))
 
-pub rest_by_zero : (x y : Float) → fits binary64 y ≡ true → float_is_finite x ≡ true → float_is_finite y ≡ true → eq y float_zero ≡ true → of_bits binary64 0x7ff8000000000000 ≡ rem binary64 x y
-unfolding float_is_finite rem of_bits
-rest_by_zero nan y F h g e = refl
-rest_by_zero (inf s) y F h g e = refl
-rest_by_zero (fin s m q) nan F h g e = refl
-rest_by_zero (fin s m q) (inf t) F h g e = absurd (true≢false (sym g))
-rest_by_zero (fin s m q) (fin t zero d) F h g e = refl
-rest_by_zero (fin s m q) (fin t (suc n) d) F h g e =
+pub rest_by_zero : (x y : Float) → fits binary64 y ≡ true → float_is_finite x ≡ true → eq y float_zero ≡ true → of_bits binary64 0x7ff8000000000000 ≡ rem binary64 x y
+unfolding float_is_finite rem of_bits eq
+rest_by_zero nan y F h e = refl
+rest_by_zero (inf s) y F h e = refl
+rest_by_zero (fin s m q) nan F h e = refl
+rest_by_zero (fin s m q) (inf t) F h e = absurd (true≢false (sym e))
+rest_by_zero (fin s m q) (fin t zero d) F h e = refl
+rest_by_zero (fin s m q) (fin t (suc n) d) F h e =
     let i = finite_is binary64 (fin t (suc n) d) (subst T (sym F) tt) tt in
     absurd (positive_units n d (nat_abs (value binary64 (fin t (suc n) d))) i.has.1 (ap nat_abs (no_units (fin t (suc n) d) (value binary64 (fin t (suc n) d)) i e)))
   where

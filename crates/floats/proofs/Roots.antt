@@ -1,5 +1,6 @@
 -- The root of a positive float is strictly nearer than any other float: it is the root on whole numbers, rounded in the normal range and below overflow.
 use Rattle.std.proofs.Common.{negsuc, pow-suc, ◌≡◌, ℕ, zero, suc, ◌+◌, ◌-◌, ◌*◌, ◌/◌, ◌^◌, ◌<◌, ◌≤◌, Bool, true, false, cond, T, ◌⊎◌, ℤ, pos, nat_abs, sym, refl, ap, ◌∙◌, subst, inl, inr, true≢false, le_trans, le_of_eq, lt_of_lt_of_le, lt_of_le_of_lt, le_of_lt, mul-le-mul_right, zero-lt-suc, mul_assoc, mul_comm, mul-le-mul, lt_of_mul-lt-mul_right, eq-or-lt_of_le, mul-lt-mul_of_pos_right, mul-pos, mul_right_comm, le_of_mul-le-mul_right, mul-div_cancel, arith, lit≤, pow_pos, pow_mono, pow-add, le-ltb, lt-ltb}
+use Rattle.std.proofs.lemmas.Bool.{cases_lt}
 use native.Mathlib.Nat.{mul-mul-mul_comm}
 use lib.Dec.{eqb→eq}
 use lib.Pow.{pow-lt}
@@ -13,7 +14,7 @@ use lib.Ieee.Scale.{overflow, grid, grid_scale, round_val, normal_of_fraction}
 use Rattle.std.specs.Float.{sqrt, float_is_finite, is_sign_negative}
 use Rattle.exact.specs.Rounded.{rounded, Rep}
 use Rattle.exact.specs.Values.{value}
-use Rattle.exact.proofs.Naturals.{le_or_lt, rep_power, rep_scaled, rounded-low, rounded-high}
+use Rattle.exact.proofs.Naturals.{rep_power, rep_scaled, rounded-low, rounded-high}
 use Rattle.exact.proofs.Values.{is_value, finite_is, is_rep, is_below}
 use Rattle.exact.proofs.Roundings.{prec_pos}
 use Rattle.exact.proofs.Unique.{same_sized}
@@ -209,14 +210,14 @@ module _ (f : Format) (x : Float) (k : ℕ) (some : 0 < units f x) (rep : Rep (p
       let r = plain_rep f y F h in
       let P : ℕ → Type 0 = λ R. ((R < Y) × (4 * X * 2 ^ low f < (R + Y) * (R + Y))) ⊎ ((Y < R) × ((R + Y) * (R + Y) < 4 * X * 2 ^ low f)) in
       subst P (sym (units_of f rooted its_units rooted-value))
-      (elim (le_or_lt its_units Y) [
-        | inl l ↦ elim (eq-or-lt_of_le l) [
+      (elim (cases_lt Y its_units) [
+        | inr l ↦ elim (eq-or-lt_of_le l) [
           | inl e ↦
               absurd (ne (same_sized f y rooted false Y F (round-fits f false (root_twice (radicand f X k some rep small)) (2 ^ (low f + (k + 2)))) (plain_value f y F h n)
               (subst (λ (R : ℕ). HasValue rooted false R (2 ^ low f)) e rooted-value)))
           | inr g ↦ inl (g, farther_above f X k some rep small Y r g)
         ]
-        | inr g ↦ inr (g, farther_below f X k some rep small Y r g)
+        | inl g ↦ inr (g, farther_below f X k some rep small Y r g)
       ])
 
   rooted_nearest : NearestRoot f x rooted

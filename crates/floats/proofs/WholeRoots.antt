@@ -25,8 +25,8 @@ data Twice (n t : ℕ) : Type 0 where
   whole : (s : ℕ) → t ≡ 2 * s → s * s ≡ n → Twice n t
   between : (s : ℕ) → t ≡ 2 * s + 1 → s * s < n → n < (s + 1) * (s + 1) → Twice n t
 
-strictly : (a b : ℕ) → a ≤ b → (a ≡ b → ⊥) → a < b
-strictly a b h n = omega arith
+pub strictly : {a b : ℕ} → a ≤ b → (a ≡ b → ⊥) → a < b
+strictly h n = omega arith
 
 is_twice : (n : ℕ) → Twice n (root_twice n)
 unfolding root_twice
@@ -37,7 +37,7 @@ is_twice n =
   where
     go : (s : ℕ) → Root s n → (b : Bool) → eqb (s * s) n ≡ b → Twice n (2 * s + cond b 0 1)
     go s r true e = whole s (omega arith) (eqb-true _ _ e)
-    go s r false e = between s refl (strictly (s * s) n r.0 (eqb-false _ _ e)) r.1
+    go s r false e = between s refl (strictly r.0 (eqb-false _ _ e)) r.1
 
 -- ---- against even numbers
 square-lt : (a b : ℕ) → a < b → a * a < b * b

@@ -1,5 +1,6 @@
 -- The root of a normal double by its pattern: guessed in float arithmetic, and accepted by a test on squares of whole numbers. Assumes nothing.
-use Rattle.std.specs.Prelude.{ℕ, ◌+◌, ◌-◌, ◌*◌, ◌/◌, ◌%◌, ◌^◌, ◌<◌, ◌≤◌, Bool, cond, ◌&&◌, Some, None, Option, nat_le, nat_lt, to_bits, Float}
+use Rattle.std.specs.Prelude.{ℕ, ◌+◌, ◌-◌, ◌*◌, ◌/◌, ◌%◌, ◌^◌, ◌<◌, ◌≤◌, Bool, ◌&&◌, [], ◌∷◌, Option, nat_le, nat_lt, to_bits, Float}
+use Rattle.std.specs.List.{find}
 use Rattle.std.specs.Float.{binary64}
 use Rattle.floats.specs.Arithmetic.{◌⊕◌, ◌⊖◌, ◌⊗◌, bits}
 
@@ -17,7 +18,7 @@ is_rounded_root n r = nat_lt (r * r) (n + r) && nat_le n (r * r + r)
 
 -- the guess g, the number after it or the one before it, whichever is the rounded root of n
 abbrev pub accepted_root : ℕ → ℕ → Option ℕ
-accepted_root n g = cond (is_rounded_root n g) (Some g) (cond (is_rounded_root n (g + 1)) (Some (g + 1)) (cond (is_rounded_root n (g - 1)) (Some (g - 1)) None))
+accepted_root n g = find (is_rounded_root n) (g ∷ (g + 1) ∷ (g - 1) ∷ [])
 
 -- the pattern of the root of b's double, where r has its digits: the exponent is half of b's
 abbrev pub root_pattern : ℕ → ℕ → ℕ

@@ -26,8 +26,8 @@ fn even_digits(pattern: u64) -> u64
 fn is_rounded_root(digits: u64, root: u64) -> bool
     ensures { result ≡ is_rounded_root (digits * 2 ^ 52) root }
 {
-    let n = digits as u128 * LEADING as u128;
-    let root = root as u128;
+    let n = u128::from(digits) * u128::from(LEADING);
+    let root = u128::from(root);
     let square = root * root;
     square < n + root && n <= square + root
 }
@@ -37,18 +37,14 @@ fn accepted_root(digits: u64, guess: u64) -> Option<u64>
     requires { (2 ^ 52 ≤ guess) × (guess < 2 ^ 53) }
     ensures { result ≡ accepted_root (digits * 2 ^ 52) guess }
 {
-    if is_rounded_root(digits, guess) {
-        Some(guess)
-    } else if is_rounded_root(digits, guess + 1) {
-        Some(guess + 1)
-    } else if is_rounded_root(digits, guess - 1) {
-        Some(guess - 1)
-    } else {
-        None
-    }
+    [guess, guess + 1, guess - 1]
+        .iter()
+        .copied()
+        .find(|&root| is_rounded_root(digits, root))
 }
 
 // One step of Newton's rule from y towards the inverse of the root of 2 * half.
+#[tactic(auto, unfolding(crate::specs::GuessedRoots::closer_inverse))]
 fn closer_inverse(half: f64, y: f64) -> f64
     ensures { result ≡ closer_inverse half y }
 {
@@ -56,6 +52,7 @@ fn closer_inverse(half: f64, y: f64) -> f64
 }
 
 // The root of a from a number y near to its inverse.
+#[tactic(auto, unfolding(crate::specs::GuessedRoots::root_by_inverse))]
 fn root_by_inverse(a: f64, y: f64) -> f64
     ensures { result ≡ root_by_inverse a y }
 {
@@ -64,6 +61,7 @@ fn root_by_inverse(a: f64, y: f64) -> f64
 }
 
 // A guess at the root of the double of a pattern, for one from 1 up to 4.
+#[tactic(auto, unfolding(crate::specs::GuessedRoots::guessed_root))]
 fn guessed_root(pattern: u64) -> f64
     requires { pattern < 2 ^ 63 }
     ensures { result ≡ guessed_root pattern }

@@ -24,41 +24,41 @@ const LEAST_NORMAL: u64 = 1 << 52;
 
 const INFINITY: u64 = 2047 << 52;
 
-// The larger of two: of +0 and -0 it is +0, and beside one NaN the other operand.
+// The smaller and the larger of two: of +0 and -0 they are -0 and +0, and beside one NaN both are the
+// other operand.
+pub fn in_order(x: f64, y: f64) -> (f64, f64)
+    ensures smaller { result.0 ≡ smaller_of x y }
+    ensures larger { result.1 ≡ larger_of x y }
+{
+    if x.is_nan() {
+        (y, y)
+    } else if y.is_nan() {
+        (x, x)
+    } else if x == y {
+        if x.is_sign_negative() { (x, y) } else { (y, x) }
+    } else if x < y {
+        (x, y)
+    } else {
+        (y, x)
+    }
+}
+
 pub fn larger(x: f64, y: f64) -> f64
     ensures { result ≡ larger_of x y }
 {
-    if x.is_nan() {
-        y
-    } else if y.is_nan() {
-        x
-    } else if x == y {
-        if x.is_sign_negative() { y } else { x }
-    } else if x < y {
-        y
-    } else {
-        x
-    }
+    let (_, larger) = in_order(x, y);
+    larger
 }
 
-// The smaller of two: of +0 and -0 it is -0, and beside one NaN the other operand.
 pub fn smaller(x: f64, y: f64) -> f64
     ensures { result ≡ smaller_of x y }
 {
-    if x.is_nan() {
-        y
-    } else if y.is_nan() {
-        x
-    } else if x == y {
-        if x.is_sign_negative() { x } else { y }
-    } else if x < y {
-        x
-    } else {
-        y
-    }
+    let (smaller, _) = in_order(x, y);
+    smaller
 }
 
 // The size of x with the sign of y; a NaN has the sign plus.
+#[tactic(auto, using(crate::proofs::Choices::nan_not_negative))]
 pub fn copysign(x: f64, y: f64) -> f64
     ensures { result ≡ signed x y }
 {
@@ -88,16 +88,18 @@ pub fn sqrt(x: f64) -> f64
     ensures other { positive x ≡ false → result ≡ root_of_other x }
 {
     let pattern = f64_to_bits_with_nan(x);
-    if LEAST_NORMAL <= pattern && pattern < INFINITY {
-        if let Some(root) = checked_root(pattern) {
-            return root;
-        }
+    if LEAST_NORMAL <= pattern
+        && pattern < INFINITY
+        && let Some(root) = checked_root(pattern)
+    {
+        return root;
     }
     x.sqrt()
 }
 
 // The size y, doubled as often as it stays at most r, which is not below it. Each sum is exact, and
 // r - t is so where it comes near t.
+// No struct says `Size`: its ghost fields are not known of a variable that a loop changes.
 fn reach(r: f64, y: f64) -> f64
     requires whole { Size r }
     requires part { Size y }
@@ -149,14 +151,11 @@ fn rest(r: f64, y: f64) -> f64
 pub fn rem(x: f64, y: f64) -> f64
     ensures { result ≡ x ⊛ y }
 {
-    if !x.is_finite() || y.is_nan() {
+    if !x.is_finite() || y.is_nan() || y == 0.0 {
         return f64::NAN;
     }
     if y.is_infinite() {
         return x;
-    }
-    if y == 0.0 {
-        return f64::NAN;
     }
     let size = rest(x.abs(), y.abs());
     if x.is_sign_negative() { -size } else { size }
@@ -164,6 +163,7 @@ pub fn rem(x: f64, y: f64) -> f64
 
 // An angle from 0 to 360 less the nearest multiple of 90, an even multiple where two are as near,
 // and that multiple modulo 4. Each difference is exact.
+// The quotient is a number, as it is in C's remquo.
 fn folded(z: f64) -> (f64, u8)
     ensures rest { result.0 ≡ folded_rest z }
     ensures quotient { result.1 ≡ folded_quotient z }
@@ -182,8 +182,8 @@ fn folded(z: f64) -> (f64, u8)
     }
 }
 
-// The remainder r, or where it is a zero the zero with the sign of x.
-fn zero_signed(x: f64, r: f64) -> f64
+// r, or where it is a zero the zero with the sign of x.
+pub fn zero_signed(x: f64, r: f64) -> f64
     ensures { result ≡ zero_signed x r }
 {
     if r == 0.0 { copysign(0.0, x) } else { r }
@@ -192,6 +192,7 @@ fn zero_signed(x: f64, r: f64) -> f64
 // The remainder of x by 90 and the quotient modulo 4: with n the whole number nearest to x / 90,
 // and of two the even one, the remainder is x - 90 n exactly, a zero with the sign of x. Where x
 // is not finite they are NaN and 0.
+#[tactic(auto, using(crate::proofs::Remainders::answered), unfolding(crate::specs::Remainders::rest_by90, crate::specs::Remainders::quotient_by90))]
 pub fn remquo(x: f64) -> (f64, u8)
     ensures rest { result.0 ≡ rest_by90 x }
     ensures quotient { result.1 ≡ quotient_by90 x }
@@ -209,15 +210,16 @@ pub fn remquo(x: f64) -> (f64, u8)
 }
 
 // The polynomial with coefficients p, highest power first, at x; 0 where there are none.
+#[tactic(auto, unfolding(crate::specs::Polynomials::horner, crate::specs::Polynomials::polynomial))]
 pub fn polyval(p: &[f64], x: f64) -> f64
     ensures { result ≡ polynomial x p.now }
 {
-    if p.is_empty() {
+    let Some((first, rest)) = p.split_first() else {
         return 0.0;
-    }
-    let mut y = p[0];
-    for val in &p[1..] {
-        y = y * x + *val;
+    };
+    let mut y = *first;
+    for c in rest {
+        y = y * x + *c;
     }
     y
 }

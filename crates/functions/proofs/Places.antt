@@ -1,37 +1,38 @@
 -- The leading digit of a float, read from its pattern: among the digits where the exponent's field is 0, else by that field.
-use Rattle.std.proofs.Common.{◌≡◌, ℕ, zero, suc, ◌+◌, ◌-◌, ◌*◌, ◌/◌, ◌^◌, ◌<◌, ◌≤◌, Bool, true, false, cond, T, eqb, sym, refl, ap, ◌∙◌, subst, inl, inr, lt_of_lt_of_le, add_assoc, suc-mul, add_comm, pow-suc, le-div_iff_mul-le, zero-add, zero-mul, sub-add_cancel, div-one, arith, lit<, pow_pos, pow_mono, pow-add, shr_lt, eq-eqb, ne_eqb}
+use Rattle.std.proofs.Common.{◌≡◌, ℕ, Option, Some, None, zero, suc, ◌+◌, ◌-◌, ◌*◌, ◌/◌, ◌^◌, ◌<◌, ◌≤◌, Bool, true, false, cond, T, eqb, sym, refl, ap, ◌∙◌, subst, inl, inr, lt_of_lt_of_le, add_assoc, suc-mul, add_comm, pow-suc, le-div_iff_mul-le, zero-add, zero-mul, sub-add_cancel, div-one, arith, lit<, pow_pos, pow_mono, pow-add, shr_lt, eq-eqb, ne_eqb}
+use Rattle.std.proofs.lemmas.Bool.{cases_lt}
 use native.Mathlib.Nat.{div-eq_of_lt}
 use borrow.Author.Tests.{clash}
 use lib.Pow.{high}
-use lib.Count.{count_leading_zeros, leading_length}
 use lib.Ieee.{Float, nan, inf, fin, binary64, size, up, down, low, to_bits, fits}
 use lib.Ieee.Digits.{size-lt, size-le, size_reaches}
 use Rattle.std.specs.Float.{float_is_finite, is_sign_negative}
+use Rattle.std.specs.Option.{IfNone, IfSome, unwrap_or}
 use Rattle.exact.specs.Values.{value}
-use Rattle.exact.proofs.Naturals.{le_or_lt}
+use Rattle.exact.proofs.Naturals.{size_pos}
 use Rattle.exact.proofs.Values.{finite_is, is_below}
 use Rattle.functions.specs.CubeRoot.{place_of, units_of, octave_of}
 
--- ---- the number of digits by the leading zeros
+-- ---- the number of digits by the binary logarithm
 
-none_longer : (a p q : ℕ) → a < p → p * 2 ≤ q → q ≤ 2 * a + 1 → ⊥
-none_longer a p q h i j = omega arith
-
-size_at_least : (m a : ℕ) → 2 ^ m ≤ 2 * a + 1 → m ≤ size a
+size_at_least : (m a : ℕ) → 2 ^ m ≤ a → suc m ≤ size a
 size_at_least m a h =
-    elim (le_or_lt m (size a)) [
-      | inl l ↦ l
-      | inr l ↦ absurd (none_longer a (2 ^ size a) (2 ^ m) (size-lt a) (subst (λ (k : ℕ). k ≤ 2 ^ m) (pow-suc 2 (size a)) (pow_mono l)) h)
+    elim (cases_lt (size a) (suc m)) [
+      | inr l ↦ l
+      | inl l ↦ let short : 2 ^ size a ≤ 2 ^ m = pow_mono (omega arith) in absurd (omega (arith, size-lt a))
     ]
 
-left_over : (s k z m : ℕ) → z + m ≡ k → s ≤ m → m ≤ s → s ≡ k - z
-left_over s k z m e h i = omega arith
+size_by_log : (a r : ℕ) → 2 ^ r ≤ a → a < 2 * 2 ^ r → r ≡ size a - 1
+size_by_log a r h i =
+    let twice : 2 ^ suc r ≡ 2 ^ r * 2 = pow-suc 2 r in
+    let least = size_at_least r a h in
+    let most = size-le a (suc r) (omega arith) in
+    omega arith
 
--- a number of at most k digits has as many as its leading zeros leave of k
-pub size-leading : (k a : ℕ) → a < 2 ^ k → size a ≡ k - count_leading_zeros k a
-size-leading k a h =
-    let l = leading_length k a h in
-    left_over (size a) k (count_leading_zeros k a) l.0 l.1 (size-le a l.0 l.2) (size_at_least l.0 a l.3)
+-- the place of the leading digit, which 0 has none of
+pub place_by_log : (o : Option ℕ) (a : ℕ) → IfNone o (a ≡ 0) → IfSome o (λ k. 2 ^ k ≤ a) → IfSome o (λ k. a < 2 * 2 ^ k) → unwrap_or o 0 ≡ size a - 1
+place_by_log None a z h i = let none : size a ≤ 0 = size-le a 0 (omega arith) in omega arith
+place_by_log (Some r) a z h i = size_by_log a r h i
 
 -- ---- the pattern of n units, h being one less than the digits that the format keeps
 
@@ -81,10 +82,10 @@ few_digits h n b s e = e ∙ ap (λ (k : ℕ). k * 2 ^ h + n / 2 ^ k) (none_drop
 pub place_of_pattern : (h n b : ℕ) → 0 < h → b ≡ (size n - suc h) * 2 ^ h + n / 2 ^ (size n - suc h)
     → cond (eqb (b / 2 ^ h) 0) (size b - 1) (b / 2 ^ h + (h - 1)) ≡ size n - 1
 place_of_pattern h n b p e =
-    elim (le_or_lt (size n) h) [
-      | inl s ↦ let same : b ≡ n = few_digits h n b s e in
+    elim (cases_lt h (size n)) [
+      | inr s ↦ let same : b ≡ n = few_digits h n b s e in
           by_digits h n b (div-eq_of_lt (subst (λ (m : ℕ). m < 2 ^ h) (sym same) (lt_of_lt_of_le (size-lt n) (pow_mono s)))) same
-      | inr s ↦ let whole : size n ≡ (size n - suc h) + suc h = sym (sub-add_cancel s) in
+      | inl s ↦ let whole : size n ≡ (size n - suc h) + suc h = sym (sub-add_cancel s) in
           by_exponent h n b (size n - suc h) p (many_digits h n b (size n - suc h) p whole e) whole
     ]
 
@@ -126,17 +127,11 @@ octave_low s h = omega arith
 octave_high : (s : ℕ) → s ≤ 3 * suc ((s - 1) / 3)
 octave_high s = omega arith
 
-some_digits : (n : ℕ) → 0 < n → 0 < size n
-some_digits n h = elim (le_or_lt (size n) 0) [ inl z ↦ absurd (too_small n (2 ^ size n) (size-lt n) (pow_mono z) h) | inr l ↦ l ]
-  where
-    too_small : (n p : ℕ) → n < p → p ≤ 1 → 0 < n → ⊥
-    too_small n p h i j = omega arith
-
 pub octave_reaches : (x : Float) → 0 < units_of x → 8 ^ octave_of x ≤ units_of x
 unfolding octave_of
 octave_reaches x h =
     subst (λ (p : ℕ). p ≤ units_of x) (sym (power_of_eight (octave_of x)))
-    (size_reaches (units_of x) (3 * octave_of x) (octave_low (size (units_of x)) (some_digits (units_of x) h)))
+    (size_reaches (units_of x) (3 * octave_of x) (octave_low (size (units_of x)) (size_pos (units_of x) h)))
 
 pub octave_ends : (x : Float) → units_of x < 8 ^ suc (octave_of x)
 unfolding octave_of

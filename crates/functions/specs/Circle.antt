@@ -33,6 +33,13 @@ mod_four n = unsigned_abs (int_rem_euclid (to_signed 63 n) (pos 4))
 abbrev pub quarter_of : Float → Quarter
 quarter_of n = cond (mod_four n == 0) First (cond (mod_four n == 1) Second (cond (mod_four n == 2) Third Fourth))
 
+-- the quarter after one
+abbrev pub after : Quarter → Quarter
+after First = Second
+after Second = Third
+after Third = Fourth
+after Fourth = First
+
 -- x less n quarter turns
 abbrev pub less_quarters : Float → Float → Float
 less_quarters x n = (x ⊖ n ⊗ leading) ⊖ n ⊗ trailing

@@ -80,6 +80,7 @@ fn arc_from_zero(x: f64) -> f64
     }
 }
 
+#[tactic(auto, using(crate::proofs::Reciprocals::arc_mirrored, crate::proofs::Reciprocals::arc_above_one), unfolding(crate::specs::Arcs::arc_tangent_of))]
 pub fn arc_tangent(x: f64) -> f64
     ensures value { result ≡ arc_tangent_of x }
     ensures mirrored { T (x ≺ bits 0) → arc_tangent_of x ≡ neg (arc_tangent_of (neg x)) }
@@ -151,6 +152,7 @@ fn angle_size(y: f64, x: f64) -> f64
     }
 }
 
+#[tactic(auto, using(crate::proofs::AnnexF::angle_by_standard))]
 pub fn angle(y: f64, x: f64) -> f64
     ensures value { result ≡ angle_of y x }
     ensures standard { AnnexF angle_of }

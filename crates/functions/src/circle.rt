@@ -1,6 +1,6 @@
 // Sine and cosine by their series: the angle is brought near zero by quarter turns.
 ghost use Rattle.std.specs.Prelude.{◌≡◌};
-ghost use Rattle.functions.specs.Circle.{within_turns, quarter_of, reduced_of, sine_near, cosine_near, sine_of, cosine_of};
+ghost use Rattle.functions.specs.Circle.{within_turns, quarter_of, after, reduced_of, sine_near, cosine_near, sine_in, cosine_in, sine_of, cosine_of};
 
 use floats::{polyval, rem};
 use std::f64::consts::PI;
@@ -38,8 +38,8 @@ const COSINE_TERMS: [f64; 10] = [
     1.0,
 ];
 
-// How many quarter turns were taken off an angle, modulo four.
-#[derive(Clone, Copy)]
+// The quarter of a turn that an angle was brought from: First where no quarter turn was taken off.
+#[derive(Clone, Copy, PartialEq, Eq, Hash, Debug)]
 pub enum Quarter {
     First,
     Second,
@@ -47,11 +47,76 @@ pub enum Quarter {
     Fourth,
 }
 
+// The quarter in which a number of quarter turns ends.
+impl From<f64> for Quarter {
+    ghost from_gives = { λ n quarter. quarter ≡ quarter_of n };
+
+    fn from(n: f64) -> Quarter {
+        match saturating_f64_to_i64(n).rem_euclid(4) {
+            0 => Quarter::First,
+            1 => Quarter::Second,
+            2 => Quarter::Third,
+            _ => Quarter::Fourth,
+        }
+    }
+}
+
+impl Quarter {
+    // The quarter after this one.
+    fn next(self) -> Quarter
+        ensures { result ≡ after self }
+    {
+        match self {
+            Quarter::First => Quarter::Second,
+            Quarter::Second => Quarter::Third,
+            Quarter::Third => Quarter::Fourth,
+            Quarter::Fourth => Quarter::First,
+        }
+    }
+}
+
 // An angle within an eighth turn of zero, and the quarter that it was brought from.
-#[derive(Clone, Copy)]
+#[derive(Clone, Copy, PartialEq, Debug)]
 pub struct Reduced {
     rest: f64,
     quarter: Quarter,
+}
+
+impl Reduced {
+    // The angle x less the nearest number of quarter turns.
+    fn of(x: f64) -> Reduced
+        ensures { result ≡ reduced_of x }
+    {
+        if x.abs() <= PI / 4.0 {
+            return Reduced {
+                rest: x,
+                quarter: Quarter::First,
+            };
+        }
+        let n = (x / (PI / 2.0)).round_ties_even();
+        let rest = (x - n * LEADING) - n * TRAILING;
+        let quarter = Quarter::from(n);
+        Reduced { rest, quarter }
+    }
+
+    fn sine(self) -> f64
+        ensures { result ≡ sine_in self.quarter self.rest }
+    {
+        match self.quarter {
+            Quarter::First => sine_near(self.rest),
+            Quarter::Second => cosine_near(self.rest),
+            Quarter::Third => -sine_near(self.rest),
+            Quarter::Fourth => -cosine_near(self.rest),
+        }
+    }
+
+    // The sine of the angle a quarter turn further.
+    fn cosine(self) -> f64
+        ensures { result ≡ cosine_in self.quarter self.rest }
+    {
+        let quarter = self.quarter.next();
+        Reduced { quarter, ..self }.sine()
+    }
 }
 
 // Beyond 1024, the remainder by a full turn.
@@ -63,34 +128,6 @@ fn within_turns(x: f64) -> f64
     } else {
         x
     }
-}
-
-// The quarter in which n quarter turns end.
-fn quarter_of(n: f64) -> Quarter
-    ensures { result ≡ quarter_of n }
-{
-    match saturating_f64_to_i64(n).rem_euclid(4) {
-        0 => Quarter::First,
-        1 => Quarter::Second,
-        2 => Quarter::Third,
-        _ => Quarter::Fourth,
-    }
-}
-
-// The angle x less the nearest number of quarter turns.
-fn reduce(x: f64) -> Reduced
-    ensures { result ≡ reduced_of x }
-{
-    if x.abs() <= PI / 4.0 {
-        return Reduced {
-            rest: x,
-            quarter: Quarter::First,
-        };
-    }
-    let n = (x / (PI / 2.0)).round_ties_even();
-    let rest = (x - n * LEADING) - n * TRAILING;
-    let quarter = quarter_of(n);
-    Reduced { rest, quarter }
 }
 
 fn sine_near(r: f64) -> f64
@@ -111,13 +148,7 @@ pub fn sine(x: f64) -> f64
     if !x.is_finite() {
         return f64::NAN;
     }
-    let reduced = reduce(within_turns(x));
-    match reduced.quarter {
-        Quarter::First => sine_near(reduced.rest),
-        Quarter::Second => cosine_near(reduced.rest),
-        Quarter::Third => -sine_near(reduced.rest),
-        Quarter::Fourth => -cosine_near(reduced.rest),
-    }
+    Reduced::of(within_turns(x)).sine()
 }
 
 pub fn cosine(x: f64) -> f64
@@ -126,11 +157,5 @@ pub fn cosine(x: f64) -> f64
     if !x.is_finite() {
         return f64::NAN;
     }
-    let reduced = reduce(within_turns(x));
-    match reduced.quarter {
-        Quarter::First => cosine_near(reduced.rest),
-        Quarter::Second => -sine_near(reduced.rest),
-        Quarter::Third => -cosine_near(reduced.rest),
-        Quarter::Fourth => sine_near(reduced.rest),
-    }
+    Reduced::of(within_turns(x)).cosine()
 }

@@ -13,7 +13,7 @@ fn place(pattern: u64) -> u64
 {
     let field = pattern >> 52;
     if field == 0 {
-        (64 - pattern.leading_zeros() as u64).saturating_sub(1)
+        u64::from(pattern.checked_ilog2().unwrap_or(0))
     } else {
         field + 51
     }

@@ -2,7 +2,7 @@
 ghost use Rattle.std.specs.Prelude.{◌≡◌};
 ghost use Rattle.functions.specs.Lengths.{across_of, hypotenuse_of};
 
-use floats::{larger, smaller, sqrt};
+use floats::{in_order, sqrt};
 
 // The hypotenuse over a longer and a shorter side, neither negative.
 fn across(long: f64, short: f64) -> f64
@@ -24,6 +24,6 @@ pub fn hypotenuse(x: f64, y: f64) -> f64
     if x.is_nan() || y.is_nan() {
         return f64::NAN;
     }
-    let (x, y) = (x.abs(), y.abs());
-    across(larger(x, y), smaller(x, y))
+    let (short, long) = in_order(x.abs(), y.abs());
+    across(long, short)
 }

@@ -3,7 +3,7 @@ ghost use Rattle.functions.specs.Series.{series};
 
 use crate::{FunctionSet, arcs, circle, cube_root, lengths};
 
-#[derive(Clone, Copy)]
+#[derive(Clone, Copy, PartialEq, Eq, Hash, Debug, Default)]
 pub struct SeriesSet;
 
 impl FunctionSet for SeriesSet {

@@ -7,7 +7,7 @@ use Rattle.surface.specs.declared.refusals.Refusal.{Refusal}
 use Rattle.surface.specs.declared.refusals.Refusal.TheVariants.{Point}
 use Rattle.ellipsoid.specs.Capabilities.{polygon_area}
 use Rattle.ellipsoid.specs.declared.shape.Ellipsoid.{Ellipsoid}
-use Rattle.inverse.specs.Inverse.{inverse}
+use Rattle.inverse.specs.Inverse.{inverse, edge_from}
 
 abbrev pub accepts_both : Float → Float → Float → Float → Bool
 accepts_both lat1 lon1 lat2 lon2 = accepts lat1 lon1 && accepts lat2 lon2
@@ -18,9 +18,4 @@ answered lat1 lon1 lat2 lon2 r = cond (accepts_both lat1 lon1 lat2 lon2) (Ok r) 
 -- ---- as a surface: the length, the area and the evaluations of an edge
 
 unfoldable pub edge_of : Funcs → Ellipsoid → Float → Float → Float → Float → Edge
-edge_of F E lat1 lon1 lat2 lon2 =
-    record {
-      s12 = (inverse F E polygon_area lat1 lon1 lat2 lon2).s12;
-      S12 = (inverse F E polygon_area lat1 lon1 lat2 lon2).S12;
-      evaluations = (inverse F E polygon_area lat1 lon1 lat2 lon2).evaluations;
-    }
+edge_of F E lat1 lon1 lat2 lon2 = edge_from (inverse F E polygon_area lat1 lon1 lat2 lon2)

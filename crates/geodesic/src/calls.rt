@@ -4,7 +4,7 @@ ghost use Rattle.ellipsoid.specs.Ellipsoids.{whole_of, wgs84_a, wgs84_f};
 ghost use Rattle.ellipsoid.specs.Ellipsoids as Ellipsoids;
 ghost use Rattle.inverse.specs.Inverse.{inverse_azi};
 ghost use Rattle.inverse.specs.MirrorLaw.{MirrorLaw};
-ghost use Rattle.geodesic.specs.Answers.{answered, accepts_both, edge_of};
+ghost use Rattle.geodesic.specs.Answers.{answered, edge_of};
 ghost use Rattle.geodesic.specs.Shapes.{accepts_shape, shape_refusal};
 ghost use Rattle.inverse.specs.Inverse as Definitions;
 ghost use Rattle.ellipsoid.specs.Capabilities.{polygon_area};
@@ -14,27 +14,29 @@ use crate::model::Geodesic;
 use ellipsoid::capability::POLYGONAREA_MASK;
 use ellipsoid::shape::{Ellipsoid, WGS84_A, WGS84_F};
 use functions::FunctionSet;
-use geomath::accepted;
-use inverse::problem::{_gen_inverse, _gen_inverse_azi, Inverse, InverseAzi};
-use surface::{Edge, Refusal, Surface, whole_fits};
+use inverse::{_gen_inverse, _gen_inverse_azi, Bearings, Directions, Inverse};
+use surface::{Edge, Refusal, Surface, accept, whole_fits};
 
 // Whether a and f lie within the accepted ranges.
+#[tactic(auto, using(floats::proofs::Ranges::at_most))]
 fn accepted_shape(a: f64, f: f64) -> bool
     ensures { result ≡ accepts_shape a f }
 {
-    a >= 1.0 && a <= 1e9 && f >= -0.02 && f <= 0.02
+    (1.0..=1e9).contains(&a) && (-0.02..=0.02).contains(&f)
 }
 
-// Whether both points are accepted.
-fn accepted_both(lat1: f64, lon1: f64, lat2: f64, lon2: f64) -> bool
-    ensures { result ≡ accepts_both lat1 lon1 lat2 lon2 }
+// Refuses two points unless both are accepted. Four floats, as the crate's calls have them.
+pub fn accept_both(lat1: f64, lon1: f64, lat2: f64, lon2: f64) -> Result<(), Refusal>
+    ensures { result ≡ answered lat1 lon1 lat2 lon2 tt }
 {
-    accepted(lat1, lon1) && accepted(lat2, lon2)
+    accept(lat1, lon1)?;
+    accept(lat2, lon2)
 }
 
 impl<F: FunctionSet + Drop> Geodesic<F> {
     // The ellipsoid of the equatorial radius a, from 1 to 10^9, and the flattening f, from -0.02 to
     // 0.02; refused where its whole area is not finite or is below 2^-1021.
+    #[tactic(auto, unfolding(crate::specs::Shapes::shape_refusal))]
     pub fn new(set: F, a: f64, f: f64) -> Result<Geodesic<F>, Refusal>
         ensures { MatchResult result (λ g. (shape_refusal (F.funcs set) a f ≡ None) × (g.set ≡ set) × (g.shape ≡ Ellipsoids.ellipsoid (F.funcs set) a f)) (λ e. shape_refusal (F.funcs set) a f ≡ Some e) }
     {
@@ -71,7 +73,9 @@ impl<F: FunctionSet> Geodesic<F> {
         self.shape.area()
     }
 
-    // The figures of the geodesic between two points that the mask wants; the others are NaN.
+    // The figures of the geodesic between two points that the mask wants; the others are NaN. The
+    // argument list is the crate's.
+    #[tactic(auto, using(inverse::proofs::MirrorLaw::mirror_law))]
     pub fn inverse(
         &self,
         lat1: f64,
@@ -79,17 +83,15 @@ impl<F: FunctionSet> Geodesic<F> {
         lat2: f64,
         lon2: f64,
         mask: u64,
-    ) -> Result<Inverse, Refusal>
+    ) -> Result<Inverse<Directions>, Refusal>
         ensures value { result ≡ answered lat1 lon1 lat2 lon2 (Definitions.inverse (F.funcs self.now.set) self.now.shape mask lat1 lon1 lat2 lon2) }
         ensures mirror { MirrorLaw }
     {
-        if !accepted_both(lat1, lon1, lat2, lon2) {
-            return Err(Refusal::Point);
-        }
+        accept_both(lat1, lon1, lat2, lon2)?;
         Ok(_gen_inverse(&self.set, &self.shape, lat1, lon1, lat2, lon2, mask))
     }
 
-    // The same with bearings in degrees.
+    // The same with bearings in degrees. The argument list is the crate's.
     pub fn inverse_azi(
         &self,
         lat1: f64,
@@ -97,12 +99,10 @@ impl<F: FunctionSet> Geodesic<F> {
         lat2: f64,
         lon2: f64,
         mask: u64,
-    ) -> Result<InverseAzi, Refusal>
+    ) -> Result<Inverse<Bearings>, Refusal>
         ensures { result ≡ answered lat1 lon1 lat2 lon2 (inverse_azi (F.funcs self.now.set) self.now.shape mask lat1 lon1 lat2 lon2) }
     {
-        if !accepted_both(lat1, lon1, lat2, lon2) {
-            return Err(Refusal::Point);
-        }
+        accept_both(lat1, lon1, lat2, lon2)?;
         Ok(_gen_inverse_azi(&self.set, &self.shape, lat1, lon1, lat2, lon2, mask))
     }
 }
@@ -117,8 +117,9 @@ impl<F: FunctionSet> Surface for Geodesic<F> {
 
     ghost few = { unfold edge_of in λ s lat1 lon1 lat2 lon2. inverse_few (F.FunctionSet.funcs s.set) s.shape polygon_area lat1 lon1 lat2 lon2 };
 
+    #[tactic(auto, unfolding(crate::specs::Answers::edge_of))]
     fn edge(&self, lat1: f64, lon1: f64, lat2: f64, lon2: f64) -> Edge {
-        let r = _gen_inverse(
+        let figures = _gen_inverse(
             &self.set,
             &self.shape,
             lat1,
@@ -127,11 +128,7 @@ impl<F: FunctionSet> Surface for Geodesic<F> {
             lon2,
             POLYGONAREA_MASK,
         );
-        Edge {
-            s12: r.s12,
-            S12: r.S12,
-            evaluations: r.evaluations,
-        }
+        Edge::from(figures)
     }
 
     fn area(&self) -> f64 {

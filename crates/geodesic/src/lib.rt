@@ -4,6 +4,7 @@
 mod calls;
 mod model;
 
+pub use calls::accept_both;
 pub use ellipsoid::{Ellipsoid, capability};
-pub use inverse::{Inverse, InverseAzi};
+pub use inverse::{Bearings, Directions, Inverse};
 pub use model::Geodesic;

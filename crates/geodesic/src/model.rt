@@ -6,7 +6,7 @@ ghost use Rattle.ellipsoid.specs.Ellipsoids.{whole_of};
 use ellipsoid::shape::Ellipsoid;
 
 // The whole area of the ellipsoid is finite and at least 2^-1021.
-#[derive(Drop)]
+#[derive(Debug, Drop, PartialEq)]
 pub struct Geodesic<F> {
     pub(crate) set: F,
     pub(crate) shape: Ellipsoid,

@@ -1,16 +1,17 @@
 -- What the words of the command line switch. Assumes nothing.
-use Rattle.std.specs.Prelude.{◌≡◌, ℕ, min, true, false, List, codes, Option, MatchOption, ◌≢◌}
+use Rattle.std.specs.Prelude.{◌≡◌, ℕ, min, true, false, List, codes, Result, MatchResult, ◌≢◌}
 use Rattle.geodsolve.specs.declared.options.Flag.{Flag}
 use Rattle.geodsolve.specs.declared.options.Flag.TheVariants.{Full, Precision}
+use Rattle.geodsolve.specs.declared.options.NotAFlag.{NotAFlag}
 use Rattle.geodsolve.specs.declared.options.Options.{Options}
 
 abbrev pub word_of : Flag → List ℕ
 word_of Full = codes "-f"
 word_of Precision = codes "-p"
 
--- the flag that the word names, or none where it names none
-abbrev pub Named : List ℕ → Option Flag → Type 0
-Named word answer = MatchOption answer ((f : Flag) → word_of f ≢ word) (λ f. word_of f ≡ word)
+-- the flag that the word names; no other word is the word of a flag
+abbrev pub ReadsFlag : List ℕ → Result Flag NotAFlag → Type 0
+ReadsFlag word answer = MatchResult answer (λ f. word_of f ≡ word) (λ _. (f : Flag) → word_of f ≢ word)
 
 -- bearings and distance, three decimals
 abbrev pub usual : Options

@@ -2,31 +2,35 @@
 ghost use Rattle.std.specs.Prelude.{◌≡◌};
 ghost use Rattle.geodsolve.specs.Tellings.{telling_of};
 
-use crate::lines::{Ends, Entry};
+use crate::lines::{Ends, NotTwoPoints};
 use functions::SeriesSet;
 use geodesic::capability::ALL;
-use geodesic::{Geodesic, InverseAzi};
-use surface::Refusal;
+use geodesic::{Bearings, Geodesic, Inverse};
+use script::LineFault;
 
-#[derive(Clone, Copy)]
-pub enum Telling {
-    Nothing,
-    NotTwoPoints,
-    Refused(Refusal),
-    // the points and the geodesic between them
-    Solved(Ends, InverseAzi),
+// Two points and the geodesic between them.
+#[derive(Clone, Copy, PartialEq, Debug)]
+pub struct Solved {
+    pub ends: Ends,
+    pub figures: Inverse<Bearings>,
 }
 
-// What is told of an entry: the geodesic between its points, with all figures.
-pub fn tell(geodesic: &Geodesic<SeriesSet>, entry: Entry) -> Telling
-    ensures { result ≡ telling_of geodesic.now.shape entry }
+// The geodesic between the two points of a line, with all figures.
+pub fn tell(
+    geodesic: &Geodesic<SeriesSet>,
+    line: Result<Option<Ends>, NotTwoPoints>,
+) -> Result<Option<Solved>, LineFault<NotTwoPoints>>
+    ensures { result ≡ telling_of geodesic.now.shape line }
 {
-    match entry {
-        Entry::Remark => Telling::Nothing,
-        Entry::Unreadable => Telling::NotTwoPoints,
-        Entry::Pair(e) => match geodesic.inverse_azi(e.lat1, e.lon1, e.lat2, e.lon2, ALL) {
-            Ok(solved) => Telling::Solved(e, solved),
-            Err(refusal) => Telling::Refused(refusal),
-        },
-    }
+    let Some(ends) = line.map_err(LineFault::Unreadable)? else {
+        return Ok(None);
+    };
+    let Ends {
+        lat1,
+        lon1,
+        lat2,
+        lon2,
+    } = ends;
+    let figures = geodesic.inverse_azi(lat1, lon1, lat2, lon2, ALL)?;
+    Ok(Some(Solved { ends, figures }))
 }

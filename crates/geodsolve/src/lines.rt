@@ -1,11 +1,13 @@
 // What a line of the input says.
-ghost use Rattle.std.specs.Prelude.{◌≡◌};
-ghost use Rattle.geodsolve.specs.Lines.{Says, pair_from, entry_from};
+ghost use Rattle.geodsolve.specs.Lines.{Says};
 
-use text::{decimal, split_word};
+use script::row;
+use std::error::Error;
+use std::fmt;
 
-// Two points, in degrees.
-#[derive(Clone, Copy)]
+// Two points, in degrees. `vectors_inverse` has these four names too: a crate for both would hold
+// nothing else.
+#[derive(Clone, Copy, PartialEq, Debug)]
 pub struct Ends {
     pub lat1: f64,
     pub lon1: f64,
@@ -13,62 +15,34 @@ pub struct Ends {
     pub lon2: f64,
 }
 
-#[derive(Clone, Copy)]
-pub enum Entry {
-    // a blank line, or one that begins with #
-    Remark,
-    // a line that is not four decimal numbers
-    Unreadable,
-    // the latitude and the longitude of two points
-    Pair(Ends),
-}
+// A line that is not four decimal numbers.
+#[derive(Clone, Copy, PartialEq, Eq, Hash, Debug)]
+pub struct NotTwoPoints;
 
-// The points of four numbers.
-fn pair_from(
-    lat1: Option<f64>,
-    lon1: Option<f64>,
-    lat2: Option<f64>,
-    lon2: Option<f64>,
-) -> Option<Ends>
-    ensures { result ≡ pair_from lat1 lon1 lat2 lon2 }
-{
-    Some(Ends {
-        lat1: lat1?,
-        lon1: lon1?,
-        lat2: lat2?,
-        lon2: lon2?,
-    })
-}
+impl fmt::Display for NotTwoPoints {
+    ghost use Rattle.std.specs.Prelude.{Some, codes};
 
-// Two points that stand alone on a line.
-fn entry_from(pair: Option<Ends>, alone: bool) -> Entry
-    ensures { result ≡ entry_from pair alone }
-{
-    match pair {
-        Some(ends) => {
-            if alone {
-                Entry::Pair(ends)
-            } else {
-                Entry::Unreadable
-            }
-        }
-        None => Entry::Unreadable,
+    ghost output = { λ _. Some (codes "not two points") };
+
+    fn fmt<W: fmt::Write>(&self, f: &mut fmt::Formatter<W>) -> fmt::Result {
+        write!(f, "not two points")
     }
 }
 
-// What a line says.
-pub fn read(line: &str) -> Entry
+impl Error for NotTwoPoints {}
+
+// The two points of a line, if it is not blank and does not begin with #.
+pub fn read(line: &str) -> Result<Option<Ends>, NotTwoPoints>
     ensures { Says line.now result }
 {
-    let (lat1, first) = split_word(line);
-    match lat1.as_bytes() {
-        [] | [b'#', ..] => return Entry::Remark,
-        _ => {}
-    }
-    let (lon1, second) = split_word(first);
-    let (lat2, third) = split_word(second);
-    let (lon2, rest) = split_word(third);
-    let (more, _) = split_word(rest);
-    let pair = pair_from(decimal(lat1), decimal(lon1), decimal(lat2), decimal(lon2));
-    entry_from(pair, more.is_empty())
+    let Some(numbers) = row::<4, NotTwoPoints>(line, NotTwoPoints)? else {
+        return Ok(None);
+    };
+    let [lat1, lon1, lat2, lon2] = numbers;
+    Ok(Some(Ends {
+        lat1,
+        lon1,
+        lat2,
+        lon2,
+    }))
 }

@@ -6,58 +6,81 @@ mod answers;
 mod lines;
 mod options;
 
-use answers::{Telling, tell};
-use anyhow::anyhow;
+use answers::{Solved, tell};
+use anyhow::Context;
 use functions::SeriesSet;
-use geodesic::{Geodesic, InverseAzi};
+use geodesic::{Bearings, Geodesic};
 use geomath::ang_normalize;
-use lines::{Ends, read};
+use lines::read;
 use options::{Flag, Options};
-use std::env;
-use std::io::Read;
-use text::split_line;
+use std::{env, fmt, io};
 
 // The options that the command line switches.
 fn read_options(rt: &HostRuntime) -> anyhow::Result<Options> {
-    let mut options = Options::usual();
-    let mut digits_next = false;
-    for word in env::args(rt)?.skip(1) {
-        if digits_next {
-            options = options.precise(word.as_str().parse::<usize>()?);
-            digits_next = false;
-        } else {
-            match Flag::named(word.as_str()) {
-                Some(Flag::Precision) => digits_next = true,
-                Some(Flag::Full) => options = options.full(),
-                None => return Err(anyhow!("usage: geodsolve [-f] [-p DIGITS] < points")),
+    let mut options = Options::default();
+    let mut words = env::args(rt)?;
+    words.next();
+    while let Some(word) = words.next() {
+        options = match word.as_str().parse()? {
+            Flag::Full => options.full(),
+            Flag::Precision => {
+                let digits = words
+                    .next()
+                    .context("-p wants a number of digits after it")?;
+                options.precise(digits.as_str().parse()?)
             }
-        }
-    }
-    if digits_next {
-        return Err(anyhow!("-p wants a number of digits after it"));
+        };
     }
     Ok(options)
 }
 
-// Both bearings and the distance.
-fn print_short(rt: &HostRuntime, r: InverseAzi, digits: usize) -> anyhow::Result<()> {
-    let fine = digits.saturating_add(5);
-    println!(rt; "{:.fine$} {:.fine$} {:.digits$}", r.azi1, r.azi2, r.s12)?;
-    Ok(())
+// A geodesic as it is printed.
+#[derive(Clone, Copy, PartialEq, Debug)]
+struct Told {
+    solved: Solved,
+    options: Options,
 }
 
-// The points, their longitudes within half a turn, with the bearings there; then distance, arc, reduced length, scales and area.
-fn print_full(rt: &HostRuntime, e: Ends, r: InverseAzi, digits: usize) -> anyhow::Result<()> {
-    let fine = digits.saturating_add(5);
-    let finest = digits.saturating_add(7);
-    let coarse = digits.saturating_sub(7);
-    let lon1 = ang_normalize(e.lon1);
-    let lon2 = ang_normalize(e.lon2);
-    print!(rt; "{:.fine$} {lon1:.fine$} {:.fine$} ", e.lat1, r.azi1)?;
-    print!(rt; "{:.fine$} {lon2:.fine$} {:.fine$} ", e.lat2, r.azi2)?;
-    print!(rt; "{:.digits$} {:.fine$} {:.digits$} ", r.s12, r.a12, r.m12)?;
-    println!(rt; "{:.finest$} {:.finest$} {:.coarse$}", r.M12, r.M21, r.S12)?;
-    Ok(())
+impl Told {
+    // Both bearings and the distance.
+    fn short<W: fmt::Write>(&self, f: &mut fmt::Formatter<W>) -> fmt::Result {
+        let r = self.solved.figures;
+        let Bearings { azi1, azi2 } = r.directions;
+        let digits = self.options.digits;
+        let fine = digits.saturating_add(5);
+        write!(f, "{azi1:.fine$} {azi2:.fine$} {:.digits$}", r.s12)
+    }
+
+    // The points, their longitudes within half a turn, with the bearings there; then distance,
+    // arc, reduced length, scales and area.
+    fn full<W: fmt::Write>(&self, f: &mut fmt::Formatter<W>) -> fmt::Result {
+        let Solved { ends, figures: r } = self.solved;
+        let Bearings { azi1, azi2 } = r.directions;
+        let digits = self.options.digits;
+        let fine = digits.saturating_add(5);
+        let finest = digits.saturating_add(7);
+        let coarse = digits.saturating_sub(7);
+        let lon1 = ang_normalize(ends.lon1);
+        let lon2 = ang_normalize(ends.lon2);
+        write!(f, "{:.fine$} {lon1:.fine$} {azi1:.fine$} ", ends.lat1)?;
+        write!(f, "{:.fine$} {lon2:.fine$} {azi2:.fine$} ", ends.lat2)?;
+        write!(f, "{:.digits$} {:.fine$} {:.digits$} ", r.s12, r.a12, r.m12)?;
+        write!(
+            f,
+            "{:.finest$} {:.finest$} {:.coarse$}",
+            r.M12, r.M21, r.S12
+        )
+    }
+}
+
+impl fmt::Display for Told {
+    fn fmt<W: fmt::Write>(&self, f: &mut fmt::Formatter<W>) -> fmt::Result {
+        if self.options.full {
+            self.full(f)
+        } else {
+            self.short(f)
+        }
+    }
 }
 
 // Prints what is told of each line.
@@ -67,26 +90,11 @@ fn solve_lines(
     options: Options,
     text: &str,
 ) -> anyhow::Result<()> {
-    let mut number: usize = 0;
-    let mut rest = text;
-    while !rest.is_empty() {
-        let (line, after) = split_line(rest);
-        rest = after;
-        number += 1;
+    for (number, line) in (1_usize..).zip(text::lines(text)) {
         match tell(geodesic, read(line)) {
-            Telling::Nothing => {}
-            Telling::NotTwoPoints => println!(rt; "line {number}: not two points")?,
-            Telling::Refused(refusal) => {
-                let why = refusal.number();
-                println!(rt; "line {number}: refused {why}")?;
-            }
-            Telling::Solved(ends, r) => {
-                if options.full {
-                    print_full(rt, ends, r, options.digits)?;
-                } else {
-                    print_short(rt, r, options.digits)?;
-                }
-            }
+            Ok(None) => {}
+            Ok(Some(solved)) => println!(rt; "{}", Told { solved, options })?,
+            Err(fault) => println!(rt; "line {number}: {fault}")?,
         }
     }
     Ok(())
@@ -94,11 +102,10 @@ fn solve_lines(
 
 fn run(rt: &HostRuntime) -> anyhow::Result<()> {
     let options = read_options(rt)?;
-    let Ok(geodesic) = Geodesic::wgs84(SeriesSet) else {
-        return Err(anyhow!("the ellipsoid is refused"));
-    };
-    let mut text = String::new(rt.alloc());
-    rt.stdin().read_to_string(&mut text)?;
+    let geodesic = Geodesic::wgs84(SeriesSet)
+        .ok()
+        .context("the ellipsoid is refused")?;
+    let text = io::read_to_string(rt.alloc(), rt.stdin())?;
     solve_lines(rt, &geodesic, options, text.as_str())
 }
 

@@ -16,6 +16,7 @@ use Rattle.exact.proofs.Integers.{rep_neg, rounded_z_at_most}
 use Rattle.exact.proofs.Roundings.{prec_pos}
 use Rattle.exact.proofs.ErrorFree.{plus_error_left}
 use Rattle.exact.proofs.TwoSum.{two-sum, Transformed}
+use Rattle.exact.proofs.Rests.{whole_sum, roomy}
 use Rattle.exact.proofs.Congruent.{congruent_same, congruent_trans, congruent_turned, congruent_turn_on, congruent_plus, congruent_neg}
 use Rattle.floats.specs.Arithmetic.{◌≗◌, ◌≻◌}
 use Rattle.floats.specs.Sums.{high, low}
@@ -27,15 +28,12 @@ use Rattle.geomath.proofs.Ranges.{Sides, sides, Near, near, kept_low, kept_high,
 
 -- ---- the parts as floats
 -- Two floats with exact values a and b, neither larger than a half turn, have an error-free sum.
-wide_enough : (h a b o : ℕ) → a ≤ h → b ≤ h → 4 * (h + h) < o → 4 * (a + b) < o
-wide_enough h a b o p q l = omega arith
-
 half_room : 4 * (half + half) < overflow binary64
 unfolding half value of_bits
 half_room = lit< tt
 
 pub parts : (u v : Float) (a b : ℤ) → T (fits binary64 u) → T (fits binary64 v) → Is binary64 u a → Is binary64 v b → nat_abs a ≤ half → nat_abs b ≤ half → Transformed binary64 u v a b
-parts u v a b F G i j p q = two-sum binary64 u v a b F G i j (wide_enough half (nat_abs a) (nat_abs b) (overflow binary64) p q half_room)
+parts u v a b F G i j p q = two-sum binary64 u v a b F G i j (roomy (nat_abs a) (nat_abs b) half (overflow binary64) p q half_room)
 
 -- the exact value E of the difference, in its range, congruent to the sum of the exact values, and the float that starts the last sum
 pub record Started (e : ℤ) (d t : Float) : Type 0 where
@@ -48,9 +46,6 @@ pub record Started (e : ℤ) (d t : Float) : Type 0 where
   pub first_size : nat_abs first ≤ half
   pub second_size : nat_abs second ≤ half
   pub reduced : Reduced half e (first +ℤ second)
-
-whole : (e g : ℤ) → g +ℤ (e -ℤ g) ≡ e
-whole e g = omega (arith, ints)
 
 round_about : (h : ℕ) → neg_ℤ (pos h) +ℤ pos (h + h) ≡ pos h
 round_about h = omega (arith, ints)
@@ -110,7 +105,7 @@ module _ (u v : Float) (a b : ℤ) (F : T (fits binary64 u)) (G : T (fits binary
   to_east = lt_is binary64 none t (pos 0) (e -ℤ g) is_none both.low
 
   kept_turns : Congruent (half + half) e (r +ℤ (e -ℤ g))
-  kept_turns = subst (λ (z : ℤ). Congruent (half + half) z (r +ℤ (e -ℤ g))) (whole e g) (congruent_plus (half + half) g (e -ℤ g) r (e -ℤ g) from_rounded.turns (congruent_same (half + half) (e -ℤ g) (e -ℤ g) refl))
+  kept_turns = subst (λ (z : ℤ). Congruent (half + half) z (r +ℤ (e -ℤ g))) (whole_sum e g) (congruent_plus (half + half) g (e -ℤ g) r (e -ℤ g) from_rounded.turns (congruent_same (half + half) (e -ℤ g) (e -ℤ g) refl))
 
   west_turns : r ≡ pos half → Congruent (half + half) e (neg_ℤ (pos half) +ℤ (e -ℤ g))
   west_turns q =
@@ -191,13 +186,10 @@ module _ (x y : Float) (F : T (fits binary64 x)) (G : T (fits binary64 y)) (hx :
   unfolding ang_diff_error E
   second_is = last.low
 
-  sum_back : (e r : ℤ) → r +ℤ (e -ℤ r) ≡ e
-  sum_back e r = omega (arith, ints)
-
   total_is : exactly (ang_diff x y) +ℤ exactly (ang_diff_error x y) ≡ E
   total_is =
       (λ i. is_value binary64 (ang_diff x y) (rounded_z (prec binary64) E) first_is i +ℤ is_value binary64 (ang_diff_error x y) (E -ℤ rounded_z (prec binary64) E) second_is i)
-      ∙ sum_back E (rounded_z (prec binary64) E)
+      ∙ whole_sum E (rounded_z (prec binary64) E)
 
   minus_then : (v w : ℤ) → neg_ℤ v +ℤ w ≡ w -ℤ v
   minus_then v w = omega (arith, ints)

@@ -7,11 +7,11 @@ use Rattle.exact.specs.Values.{Is}
 use Rattle.exact.proofs.Values.{neg_is}
 use Rattle.exact.proofs.Orders.{lt_is}
 use Rattle.exact.proofs.Unique.{same_value}
-use Rattle.exact.proofs.Products.{mul_opposites, mul-minus-moved, neg-neg}
+use Rattle.exact.proofs.Products.{mul_opposites, mul-minus-moved}
 use Rattle.floats.specs.Arithmetic.{◌⊗◌, ◌≺◌}
 use Rattle.geomath.specs.Angles.{zero as none, one}
 use Rattle.geomath.proofs.Turns.{is_none}
-use Rattle.geomath.proofs.Mirror.{opposite_test, size_of_opposite, opposite_float}
+use Rattle.geomath.proofs.Mirror.{opposite_test, opposite_sign, size_of_opposite, opposite_float}
 use Rattle.geomath.proofs.OffEquator.{size_is}
 
 -- the sign that brings a latitude to the south
@@ -33,14 +33,10 @@ abbrev pub sorted_second : Float → Float → Float
 sorted_second p q = cond (float_with_sign false p ≺ float_with_sign false q) (second_of q p) (second_of p q)
 
 -- ---- the opposite latitudes
-opposite_south_sign : (b : Bool) → cond (not b) one (neg one) ≡ neg (cond b one (neg one))
-opposite_south_sign true = refl
-opposite_south_sign false = sym (neg-neg one)
-
 opposite_south : (p : Float) (z : ℤ) → Is binary64 p z → 0 < nat_abs z → south_of (neg p) ≡ neg (south_of p)
 opposite_south p z i h =
     ap (λ (b : Bool). cond b one (neg one)) (lt_is binary64 (neg p) none (neg_ℤ z) (pos 0) (neg_is binary64 p z i) is_none ∙ opposite_test z h ∙ ap not (sym (lt_is binary64 p none z (pos 0) i is_none)))
-    ∙ opposite_south_sign (p ≺ none)
+    ∙ opposite_sign (p ≺ none)
 
 pub first_opposite : (p q : Float) (z : ℤ) → Is binary64 p z → 0 < nat_abs z → first_of (neg p) (neg q) ≡ first_of p q
 first_opposite p q z i h = ap (λ (v : Float). neg p ⊗ v) (opposite_south p z i h) ∙ mul_opposites binary64 p (south_of p)

@@ -14,7 +14,9 @@ use Rattle.exact.proofs.Roundings.{rounds_exact, prec_pos}
 use Rattle.exact.proofs.Values.{neg_is, finite_is, is_rep, is_below}
 use Rattle.exact.proofs.Sums.{sub-rounds}
 use Rattle.exact.proofs.Orders.{lt_is, le_is, eq_is, eq_z}
-use Rattle.exact.proofs.Integers.{unsigned_abs_neg, rounded_z-neg, rounded_z_exact, rounded_z_relative}
+use Rattle.exact.proofs.Integers.{rounded_z-neg, rounded_z_exact, rounded_z_relative}
+use Rattle.exact.proofs.Signs.{unsigned_abs_neg}
+use Rattle.exact.proofs.Rests.{opposite_rest}
 use Rattle.exact.proofs.Congruent.{opposite_reduced}
 use Rattle.exact.proofs.Unique.{same_value, zero_is, is_zero}
 use Rattle.exact.proofs.Products.{mul_opposites, neg-neg}
@@ -98,7 +100,7 @@ opposite_east (pos zero) h = absurd (lt_irrefl 0 h)
 opposite_east (pos (suc n)) h = sym (ap not (le-leb 0 (suc n) zero-le))
 opposite_east (negsuc n) h = le-leb 0 (suc n) zero-le
 
-opposite_sign : (b : Bool) → cond (not b) one (neg one) ≡ neg (cond b one (neg one))
+pub opposite_sign : (b : Bool) → cond (not b) one (neg one) ≡ neg (cond b one (neg one))
 opposite_sign true = refl
 opposite_sign false = sym (neg-neg one)
 
@@ -174,9 +176,6 @@ zero_or_not (negsuc n) = inr (zero-lt-suc n)
 
 abbrev R : ℤ → ℤ
 R = rounded_z (prec binary64)
-
-opposite_rest : (e r : ℤ) → neg_ℤ e -ℤ neg_ℤ r ≡ neg_ℤ (e -ℤ r)
-opposite_rest e r = omega (arith, ints)
 
 nothing_left : (e : ℤ) → e -ℤ e ≡ pos 0
 nothing_left e = omega (arith, ints)

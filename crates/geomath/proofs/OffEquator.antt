@@ -13,7 +13,9 @@ use Rattle.exact.proofs.Values.{neg_is, finite_is, is_rep, is_below}
 use Rattle.exact.proofs.Sums.{sub-rounds}
 use Rattle.exact.proofs.Roundings.{rounds_bounded, prec_pos}
 use Rattle.exact.proofs.Naturals.{rep_zero}
-use Rattle.exact.proofs.Integers.{rounded_z-low, rounded_z-high, unsigned_abs_neg}
+use Rattle.exact.proofs.Integers.{rounded_z-low, rounded_z-high}
+use Rattle.exact.proofs.Signs.{unsigned_abs_neg}
+use Rattle.exact.proofs.Rests.{positive_size}
 use Rattle.exact.proofs.Orders.{lt_is, le_is, eq_is, eq_z}
 use Rattle.floats.specs.Arithmetic.{◌⊖◌, ◌⊘◌, ◌≺◌, ◌≼◌, ◌≗◌, bits}
 use Rattle.geomath.specs.Angles.{zero as none, one, sixteen, coarse, ang_round}
@@ -155,9 +157,6 @@ pub record Off (x : Float) (z : ℤ) : Type 0 where
   pub fit : T (fits binary64 (ang_round x))
   pub some : 0 < nat_abs exact
   pub given : 0 < nat_abs z
-
-positive_size : (z : ℤ) → pos 0 <ℤ z → 0 < nat_abs z
-positive_size z h = omega (arith, ints)
 
 at_least : (n : ℕ) → le_z (pos step) (pos n) ≡ true → step ≤ n
 at_least n e = leb-true step n e

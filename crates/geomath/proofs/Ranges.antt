@@ -1,11 +1,11 @@
 -- Where the two parts of a difference of longitudes lie together: on whole numbers, with e the exact sum of two normalized longitudes, g that sum rounded, and r the
 -- rounded sum reduced by whole turns.
 use Rattle.std.proofs.Common.{◌≡◌, ℕ, suc, ◌+◌, ◌*◌, ◌<◌, ◌≤◌, ◌⊎◌, ℤ, pos, ◌+ℤ◌, ◌-ℤ◌, neg_ℤ, nat_abs, ◌≤ℤ◌, ◌<ℤ◌, sym, ap, ◌∙◌, inl, inr, le_of_lt, mul-le-mul_right, suc-mul, arith}
+use Rattle.std.proofs.lemmas.Bool.{cases_lt}
 use Rattle.std.proofs.lemmas.Int.{ints}
 use Rattle.exact.specs.Rounded.{rounded_z, RepZ}
 use Rattle.exact.specs.Congruent.{Congruent}
 use Rattle.exact.proofs.Integers.{rounded_z-low, rounded_z-high, rounded_z_exact, ≤ℤ_or_<ℤ, <ℤ_≤ℤ}
-use Rattle.exact.proofs.Naturals.{le_or_lt}
 
 -- ---- a rounded number lies on the side of a representable one that the number itself lies on
 abbrev pub Sides : ℤ → ℤ → ℤ → Type 0
@@ -47,9 +47,9 @@ abbrev Steps : ℕ → ℕ → Type 0
 Steps m l = (l ≡ m) ⊎ ((l ≡ suc m) ⊎ (suc (suc m) ≤ l))
 
 steps : (m l : ℕ) → m ≤ l → Steps m l
-steps m l h = elim (le_or_lt l m) [
-  | inl k ↦ inl (omega arith)
-  | inr k ↦ inr (elim (le_or_lt l (suc m)) [ inl q ↦ inl (omega arith) | inr q ↦ inr q ])
+steps m l h = elim (cases_lt m l) [
+  | inr k ↦ inl (omega arith)
+  | inl k ↦ inr (elim (cases_lt (suc m) l) [ inr q ↦ inl (omega arith) | inl q ↦ inr q ])
 ]
 
 turn_more : (m l F : ℕ) → l ≡ suc m → l * F ≡ m * F + F
@@ -62,15 +62,15 @@ turns_more m l F h = counted (mul-le-mul_right F h) (suc-mul (suc m) F) (suc-mul
     counted l e k = omega arith
 
 pub near : (h : ℕ) (g r : ℤ) → 0 < h → nat_abs g ≤ h + h → neg_ℤ (pos h) <ℤ r → r ≤ℤ pos h → Congruent (h + h) g r → Near (h + h) g r
-near h g r H s a u c = elim (le_or_lt c.more c.less) [
-  | inl k ↦ elim (steps c.more c.less k) [
+near h g r H s a u c = elim (cases_lt c.less c.more) [
+  | inr k ↦ elim (steps c.more c.less k) [
     | inl e ↦ inl (no_more (c.more * F) (c.less * F) g r (ap (λ (n : ℕ). n * F) e) c.is)
     | inr q ↦ elim q [
       | inl e ↦ inr (inl (one_more (c.more * F) (c.less * F) F g r (turn_more c.more c.less F e) c.is))
       | inr l ↦ absurd (far h (c.more * F) (c.less * F) g r H s a u c.is (turns_more c.more c.less F l))
     ]
   ]
-  | inr k ↦ elim (steps c.less c.more (le_of_lt k)) [
+  | inl k ↦ elim (steps c.less c.more (le_of_lt k)) [
     | inl e ↦ inl (no_more (c.more * F) (c.less * F) g r (ap (λ (n : ℕ). n * F) (sym e)) c.is)
     | inr q ↦ elim q [
       | inl e ↦ inr (inr (one_less (c.more * F) (c.less * F) F g r (turn_more c.less c.more F e) c.is))

@@ -23,10 +23,8 @@ pub fn ang_round(x: f64) -> f64
     ensures { result ≡ ang_round x }
 {
     let z = 1.0 / 16.0;
-    let mut y = x.abs();
-    if y < z {
-        y = z - (z - y);
-    }
+    let size = x.abs();
+    let y = if size < z { z - (z - size) } else { size };
     if x == 0.0 {
         0.0
     } else if x < 0.0 {
@@ -64,6 +62,7 @@ pub fn remainder(x: f64, y: f64) -> f64
 }
 
 // An angle reduced to (-180, 180].
+#[tactic(auto, using(crate::proofs::Normalized::normalized), unfolding(crate::specs::Angles::ang_normalize))]
 pub fn ang_normalize(x: f64) -> f64
     ensures value { result ≡ ang_normalize x }
     ensures reduced { float_is_finite x ≡ true → Normalized x }
@@ -72,7 +71,7 @@ pub fn ang_normalize(x: f64) -> f64
     if y == -180.0 { 180.0 } else { y }
 }
 
-// A latitude, or NaN where it lies outside [-90, 90].
+// A latitude, or NaN where it lies outside [-90, 90], as the crate answers.
 pub fn lat_fix(x: f64) -> f64
     ensures { result ≡ lat_fix x }
 {
@@ -80,6 +79,7 @@ pub fn lat_fix(x: f64) -> f64
 }
 
 // The difference y - x reduced to [-180, 180]: rounded, and what the rounding left out.
+#[tactic(auto, unfolding(crate::specs::Angles::ang_diff, crate::specs::Angles::ang_diff_error))]
 pub fn ang_diff(x: f64, y: f64) -> (f64, f64)
     ensures high { result.0 ≡ ang_diff x y }
     ensures low { result.1 ≡ ang_diff_error x y }
@@ -87,16 +87,15 @@ pub fn ang_diff(x: f64, y: f64) -> (f64, f64)
 {
     let (d, t) = sum(ang_normalize(-x), ang_normalize(y));
     let d = ang_normalize(d);
-    if d == 180.0 && t > 0.0 {
-        sum(-180.0, t)
-    } else {
-        sum(d, t)
-    }
+    let start = if d == 180.0 && t > 0.0 { -180.0 } else { d };
+    sum(start, t)
 }
 
-// Whether a point is accepted: a latitude from -90 to 90 and a finite longitude.
+// Whether a point is accepted: a latitude from -90 to 90 and a finite longitude; as two numbers, since
+// the structs of a point stand in the crates above.
+#[tactic(auto, using(floats::proofs::Ranges::at_most))]
 pub fn accepted(lat: f64, lon: f64) -> bool
     ensures { result ≡ accepts lat lon }
 {
-    lat >= -90.0 && lat <= 90.0 && lon.is_finite()
+    (-90.0..=90.0).contains(&lat) && lon.is_finite()
 }

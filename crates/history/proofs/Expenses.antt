@@ -1,8 +1,8 @@
 -- What a call costs by the book: a station is drawn anew from the points of its row, so the edges solved are those beside the place of the edit, of the points that stand afterwards.
-use Rattle.std.proofs.Common.{◌≡◌, ℕ, zero, suc, ◌+◌, ◌-◌, ◌<◌, ◌≤◌, Bool, true, false, cond, ◌&&◌, eqb, ltb, List, [], ◌∷◌, ◌++◌, map, length, get_or, take, drop, set, sym, refl, ap, ◌∙◌, inl, ⊎_elim, add-zero, add_assoc, zero-add, arith}
+use Rattle.std.proofs.Common.{◌≡◌, ℕ, suc, ◌+◌, ◌-◌, ◌<◌, ◌≤◌, Bool, true, false, cond, ◌&&◌, eqb, ltb, List, [], ◌∷◌, ◌++◌, map, length, get_or, take, drop, set, sym, refl, ap, ◌∙◌, inl, ⊎_elim, add-zero, add_assoc, zero-add, arith}
 use lib.Seq.{take-set-lt, map-set_same}
 use Rattle.std.specs.List.{insert, remove}
-use Rattle.std.proofs.lemmas.List.{map-append, map-set, length-map, length-set, get_or-take, get_or-map, take_at}
+use Rattle.std.proofs.lemmas.List.{take-map, drop-map, map-append, map-set, length-map, length-set, get_or-take, get_or-map, take_at}
 use Rattle.std.proofs.lemmas.List.Edits.{length-insert, length-remove}
 use Rattle.std.proofs.lemmas.Bool.{lt-ltb, le-ltb, and_from, and_left, and_right, cases_lt}
 use Rattle.rows.specs.Rows.{put_in, take_out, is_in_use}
@@ -16,16 +16,6 @@ use Rattle.stations.proofs.Redrawing.{room, used, not_used, redrawn_not, redrawn
 use Rattle.history.specs.Expenses.{arriving, beside, cost_of}
 
 -- ---- the points of a row
-
-map-take : {X Y : Type 0} (f : X → Y) (n : ℕ) (l : List X) → map f (take n l) ≡ take n (map f l)
-map-take f zero l = refl
-map-take f (suc n) [] = refl
-map-take f (suc n) (x ∷ l) = ap (λ r. f x ∷ r) (map-take f n l)
-
-map-drop : {X Y : Type 0} (f : X → Y) (n : ℕ) (l : List X) → map f (drop n l) ≡ drop n (map f l)
-map-drop f zero l = refl
-map-drop f (suc n) [] = refl
-map-drop f (suc n) (x ∷ l) = map-drop f n l
 
 -- the first stations of a row are at these points
 pub record At (row : List Station) (ps : List Point) : Type 0 where
@@ -127,7 +117,7 @@ module _ (edge : Solve) where
 
   module _ (row : List Station) (ps : List Point) (at : At row ps) (place : ℕ) where
     front_points : map point_of (take (length ps) row) ≡ ps
-    front_points = map-take point_of (length ps) row ∙ at.points
+    front_points = sym (take-map point_of (length ps) row) ∙ at.points
 
     put_at : (p : Point) → place ≤ length ps → length ps < length row → At (put_in row (length ps) place (first_station p)) (insert ps place p)
     put_at p low free =
@@ -137,8 +127,8 @@ module _ (edge : Solve) where
         let more : length (insert ps place p) ≡ n + 1 = length-insert ps place p low in
         let mapped : map point_of (insert front place s) ≡ insert ps place p =
         map-append point_of (take place front) (s ∷ drop place front)
-        ∙ ap (λ l. l ++ p ∷ map point_of (drop place front)) (map-take point_of place front)
-        ∙ ap (λ l. take place (map point_of front) ++ p ∷ l) (map-drop point_of place front)
+        ∙ ap (λ l. l ++ p ∷ map point_of (drop place front)) (sym (take-map point_of place front))
+        ∙ ap (λ l. take place (map point_of front) ++ p ∷ l) (sym (drop-map point_of place front))
         ∙ ap (λ l. insert l place p) front_points in
         record {
           points =
@@ -182,8 +172,8 @@ module _ (edge : Solve) where
           let less : length (remove ps place) + 1 ≡ n = length-remove ps place low in
           let mapped : map point_of (remove front place) ≡ remove ps place =
           map-append point_of (take place front) (drop (suc place) front)
-          ∙ ap (λ l. l ++ map point_of (drop (suc place) front)) (map-take point_of place front)
-          ∙ ap (λ l. take place (map point_of front) ++ l) (map-drop point_of (suc place) front)
+          ∙ ap (λ l. l ++ map point_of (drop (suc place) front)) (sym (take-map point_of place front))
+          ∙ ap (λ l. take place (map point_of front) ++ l) (sym (drop-map point_of (suc place) front))
           ∙ ap (λ l. remove l place) front_points in
           record {
             points =

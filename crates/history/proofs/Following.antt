@@ -1,5 +1,5 @@
 -- The relation between an outline and its book, and that each call on rows as long as at opening keeps it and agrees with the book.
-use Rattle.std.proofs.Common.{◌≡◌, ℕ, zero, suc, ◌+◌, ◌-◌, ◌<◌, ◌≤◌, Bool, true, eqb, List, [], ◌∷◌, ◌++◌, map, length, get_or, take, drop, set, Some, None, Err, Option, sym, refl, ap, ◌∙◌, subst, ⊎_elim, arith}
+use Rattle.std.proofs.Common.{◌≡◌, ℕ, zero, suc, ◌+◌, ◌-◌, ◌<◌, ◌≤◌, Bool, true, eqb, List, [], ◌∷◌, ◌++◌, map, length, get_or, take, drop, set, Some, None, Ok, Err, Option, sym, refl, ap, ◌∙◌, subst, ⊎_elim, arith}
 use lib.ListN.{get_or-map}
 use lib.Seq.{take-length, drop-length}
 use lib.Ieee.{Float}
@@ -25,9 +25,8 @@ use Rattle.history.specs.declared.Frame.{Frame}
 use Rattle.history.specs.declared.Measurement.{Measurement}
 use Rattle.history.specs.declared.Call.{Call}
 use Rattle.history.specs.declared.Call.TheVariants.{Add, Move, Drop, TakeBack, Measure}
-use Rattle.history.specs.declared.Answer.{Answer}
-use Rattle.history.specs.declared.Answer.TheVariants.{Edited, Measured, Refused}
-use Rattle.history.specs.Calls.{After, Done, lengths_of, same_lengths, with_counts, no_record, newest_of, undrawn, undrawn_count, add_of, move_of, drop_of, take_back_of, measured, measure_of, measure_answer, done_by, done_of}
+use Rattle.history.specs.declared.Done.TheVariants.{Edited, Measured}
+use Rattle.history.specs.Calls.{Answer, After, Outcome, lengths_of, same_lengths, with_counts, no_record, newest_of, undrawn, undrawn_count, add_of, move_of, drop_of, take_back_of, measured, measure_of, measure_answer, done_by, done_of}
 use Rattle.history.specs.Book.{Book, refusal_on, turned_to, changed, unless_refused}
 use Rattle.history.specs.Histories.{refusal_in, FiguresAgree}
 use Rattle.history.proofs.Outcomes.{add_off, add-full, add_done, move_above, move_off, move_done, drop_above, drop_done, take_back_none, take_back_done, measure_done}
@@ -48,31 +47,25 @@ pub record Follows (edge : Solve) (winding : Winding) (opening : Sizes) (b : Boo
   pub past : Chain opening.stations b.standing (newest_first edits f.counts.edits) b.past
 
 -- a call on a station row of `room` slots did as the book says
-pub record Right (edge : Solve) (whole : Float) (winding : Winding) (opening : Sizes) (room : ℕ) (b : Book) (call : Call) (d : Done) : Type 0 where
+pub record Right (edge : Solve) (whole : Float) (winding : Winding) (opening : Sizes) (room : ℕ) (b : Book) (call : Call) (d : Outcome) : Type 0 where
   pub refusal : refusal_in d.answer ≡ refusal_on room b call
   pub figures : FiguresAgree edge whole winding b.standing call d.answer
   pub follows : Follows edge winding opening (unless_refused (refusal_on room b call) b (changed opening.edits b call)) d.frame d.stations d.edits
 
-pub not_refused : (e : Refusal) (m : Measurement) → Refused e ≡ Measured m → ⊥
-not_refused e m is = let z : ◌≡◌ {A = ℕ} 0 1 = cc in omega arith
-
-not_edited : (cost : Cost) (m : Measurement) → Edited cost ≡ Measured m → ⊥
-not_edited cost m is = let z : ◌≡◌ {A = ℕ} 0 1 = cc in omega arith
-
 module _ (edge : Solve) (whole : Float) (winding : Winding) (opening : Sizes) (room : ℕ) (b : Book) (call : Call) (f : Frame) (stations : List Station) (edits : List EditRecord) where
-  refused_right : (e : Refusal) → refusal_on room b call ≡ Some e → Follows edge winding opening b f stations edits → Right edge whole winding opening room b call (record { answer = Refused e; frame = f; stations = stations; edits = edits })
+  refused_right : (e : Refusal) → refusal_on room b call ≡ Some e → Follows edge winding opening b f stations edits → Right edge whole winding opening room b call (record { answer = Err e; frame = f; stations = stations; edits = edits })
   refused_right e says r =
       record {
         refusal = sym says;
-        figures = λ sign m is answers. absurd (not_refused e m answers);
+        figures = λ sign m is answers. absurd (cc);
         follows = subst (λ (o : Option Refusal). Follows edge winding opening (unless_refused o b (changed opening.edits b call)) f stations edits) (sym says) r;
       }
 
-  edited_right : (cost : Cost) → refusal_on room b call ≡ None → Follows edge winding opening (changed opening.edits b call) f stations edits → Right edge whole winding opening room b call (record { answer = Edited cost; frame = f; stations = stations; edits = edits })
+  edited_right : (cost : Cost) → refusal_on room b call ≡ None → Follows edge winding opening (changed opening.edits b call) f stations edits → Right edge whole winding opening room b call (record { answer = Ok (Edited cost); frame = f; stations = stations; edits = edits })
   edited_right cost says r =
       record {
         refusal = sym says;
-        figures = λ sign m is answers. absurd (not_edited cost m answers);
+        figures = λ sign m is answers. absurd (cc);
         follows = subst (λ (o : Option Refusal). Follows edge winding opening (unless_refused o b (changed opening.edits b call)) f stations edits) (sym says) r;
       }
 
@@ -224,7 +217,7 @@ module _ (edge : Solve) (whole : Float) (winding : Winding) (opening : Sizes) (b
   measure_right bound sign =
       let ps = b.standing in
       let few : length ps < most_points = omega (arith, r.holds.held, r.station_row) in
-      let answers : measure_answer (measure_of edge whole f stations edits sign) ≡ Measured (measurement sign) = ap measure_answer (measure_done edge f stations edits same whole sign) in
+      let answers : measure_answer (measure_of edge whole f stations edits sign) ≡ Ok (Measured (measurement sign)) = ap measure_answer (measure_done edge f stations edits same whole sign) in
       subst (λ (a : Answer). Right edge whole winding opening (length stations) b (Measure sign) (record { answer = a; frame = f; stations = stations; edits = edits })) (sym answers)
       (record {
         refusal = refl;

@@ -1,5 +1,5 @@
 -- The history law: the relation holds at opening, each call keeps it, and a call on rows of other lengths changes nothing.
-use Rattle.std.proofs.Common.{◌≡◌, ℕ, ◌≤◌, true, false, cond, ◌&&◌, leb, List, [], ◌∷◌, length, Some, None, Option, sym, refl, ap, ◌∙◌, subst, ⊎_elim, arith}
+use Rattle.std.proofs.Common.{◌≡◌, ℕ, ◌≤◌, true, false, cond, ◌&&◌, leb, List, [], ◌∷◌, length, Some, None, Option, sym, refl, ap, ◌∙◌, subst, ⊎_elim, arith, Err}
 use lib.Ieee.{Float}
 use Rattle.std.proofs.lemmas.Bool.{leb-true, and_parts, cases_Bool, cond-true, cond-false}
 use Rattle.surface.specs.declared.refusals.Refusal.{Refusal}
@@ -12,15 +12,14 @@ use Rattle.history.specs.declared.Sizes.{Sizes}
 use Rattle.history.specs.declared.Frame.{Frame}
 use Rattle.history.specs.declared.Call.{Call}
 use Rattle.history.specs.declared.Call.TheVariants.{Add, Move, Drop, TakeBack, Measure}
-use Rattle.history.specs.declared.Answer.TheVariants.{Refused}
-use Rattle.history.specs.Calls.{Done, done_by, done_of, measure_answer, lengths_of, same_lengths, open_refusal, opened}
+use Rattle.history.specs.Calls.{Outcome, done_by, done_of, measure_answer, lengths_of, same_lengths, open_refusal, opened}
 use Rattle.history.specs.Book.{Book, empty_book, refusal_on, book_refusal, book_after, changed, unless_refused}
 use Rattle.history.specs.Histories.{Event, done_at, fitting, Untouched, refusal_in, Agree, Agrees, HistoryLaw}
 use Rattle.history.proofs.Outcomes.{add-lengths, move_lengths, drop-lengths, take_back_lengths, measure_lengths}
-use Rattle.history.proofs.Following.{Follows, not_refused, call_right}
+use Rattle.history.proofs.Following.{Follows, call_right}
 
 -- a call on rows of other lengths
-other_lengths : (edge : Solve) (whole : Float) (f : Frame) (stations : List Station) (edits : List EditRecord) → same_lengths (lengths_of stations edits) f.lengths ≡ false → (call : Call) → done_of edge whole f stations edits call ≡ record { answer = Refused RowLength; frame = f; stations = stations; edits = edits }
+other_lengths : (edge : Solve) (whole : Float) (f : Frame) (stations : List Station) (edits : List EditRecord) → same_lengths (lengths_of stations edits) f.lengths ≡ false → (call : Call) → done_of edge whole f stations edits call ≡ record { answer = Err RowLength; frame = f; stations = stations; edits = edits }
 other_lengths edge whole f stations edits other (Add lat lon) = ap done_by (add-lengths edge f stations edits other lat lon)
 other_lengths edge whole f stations edits other (Move place lat lon) = ap done_by (move_lengths edge f stations edits other place lat lon)
 other_lengths edge whole f stations edits other (Drop place) = ap done_by (drop-lengths edge f stations edits other place)
@@ -38,7 +37,7 @@ module _ (edge : Solve) (whole : Float) (winding : Winding) (opening : Sizes) (b
     pub follows : Follows edge winding opening (after b e) (done_at edge whole e).frame (cond (fitting e) (done_at edge whole e).stations stations) (cond (fitting e) (done_at edge whole e).edits edits)
 
   module _ (b : Book) (stations : List Station) (edits : List EditRecord) (e : Event) where
-    done : Done
+    done : Outcome
     done = done_at edge whole e
 
     found : Sizes
@@ -63,15 +62,15 @@ module _ (edge : Solve) (whole : Float) (winding : Winding) (opening : Sizes) (b
     step_other r other =
         let same : same_lengths found opening ≡ false = ap (same_lengths found) (sym r.lengths) ∙ other in
         let says : book_refusal opening found b e.call ≡ Some RowLength = cond-false (same_lengths found opening) (refusal_on (length e.stations) b e.call) (Some RowLength) same in
-        let is : done ≡ record { answer = Refused RowLength; frame = e.frame; stations = e.stations; edits = e.edits } = other_lengths edge whole e.frame e.stations e.edits other e.call in
+        let is : done ≡ record { answer = Err RowLength; frame = e.frame; stations = e.stations; edits = e.edits } = other_lengths edge whole e.frame e.stations e.edits other e.call in
         let kept : Follows edge winding opening (after b e) e.frame stations edits =
         subst (λ (o : Option Refusal). Follows edge winding opening (unless_refused o b (changed opening.edits b e.call)) e.frame stations edits) (sym says) r in
         let framed : Follows edge winding opening (after b e) done.frame stations edits =
-        subst (λ (f : Frame). Follows edge winding opening (after b e) f stations edits) (sym (ap (λ (d : Done). d.frame) is)) kept in
+        subst (λ (f : Frame). Follows edge winding opening (after b e) f stations edits) (sym (ap (λ (d : Outcome). d.frame) is)) kept in
         record {
           agrees = record {
-            refusal = ap (λ (d : Done). refusal_in d.answer) is ∙ sym says;
-            figures = λ sign m asked answers. absurd (not_refused RowLength m (sym (ap (λ (d : Done). d.answer) is) ∙ answers));
+            refusal = ap (λ (d : Outcome). refusal_in d.answer) is ∙ sym says;
+            figures = λ sign m asked answers. absurd (cc (ap (λ (d : Outcome). d.answer) is));
           };
           follows = subst (λ l. Follows edge winding opening (after b e) done.frame l (cond (fitting e) done.edits edits)) (sym (cond-false (fitting e) done.stations stations other))
               (subst (λ l. Follows edge winding opening (after b e) done.frame stations l) (sym (cond-false (fitting e) done.edits edits other)) framed);
@@ -107,14 +106,11 @@ opening_follows edge winding stations edits =
       past = tt;
     }
 
-some_not_none : (e : Refusal) → Some e ≡ None → ⊥
-some_not_none e is = let z : ◌≡◌ {A = ℕ} 0 1 = cc in omega arith
-
 pub opening_bound : (stations edits : ℕ) → open_refusal stations edits ≡ None → stations ≤ 4096
 opening_bound stations edits granted =
     ⊎_elim
     (λ fit. leb-true stations 4096 (and_parts (leb stations 4096) (leb edits 1024) fit).0)
-    (λ unfit. absurd (some_not_none RowLength (sym (cond-false (leb stations 4096 && leb edits 1024) None (Some RowLength) unfit) ∙ granted)))
+    (λ unfit. absurd (cc (cond-false (leb stations 4096 && leb edits 1024) None (Some RowLength) unfit)))
     (cases_Bool (leb stations 4096 && leb edits 1024))
 
 pub history_law : HistoryLaw

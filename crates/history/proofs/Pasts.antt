@@ -8,9 +8,9 @@ use Rattle.rows.specs.Rows.{put_in, take_out}
 use Rattle.rows.proofs.Changes.{put_in_place, take_out_place, length_take_out}
 use Rattle.polygon.specs.declared.Point.{Point}
 use Rattle.stations.specs.declared.records.EditRecord.{EditRecord}
-use Rattle.stations.specs.Records.{add_kind, move_kind, fits_outline, noted, noted_count}
+use Rattle.stations.specs.Records.{old_point, add_kind, move_kind, fits_outline, noted, noted_count}
 use Rattle.stations.proofs.Noting.{noted_room, noted-full, count_room, count_full}
-use Rattle.history.specs.Calls.{old_point, no_record}
+use Rattle.history.specs.Calls.{no_record}
 
 -- the first `count` records of a row, newest first
 abbrev pub newest_first : List EditRecord → ℕ → List EditRecord

@@ -11,8 +11,8 @@ use Rattle.polygon.specs.Polygons.{Solve, origin}
 use Rattle.stations.specs.declared.Station.{Station}
 use Rattle.stations.specs.declared.records.EditRecord.{EditRecord}
 use Rattle.stations.specs.Stations.{Drawing, unchanged, placed, moved, dropped}
-use Rattle.stations.specs.Records.{add_kind, move_kind, drop_kind, fits_outline}
-use Rattle.history.specs.Calls.{old_point, undrawn, undrawn_count}
+use Rattle.stations.specs.Records.{old_point, add_kind, move_kind, drop_kind, fits_outline}
+use Rattle.history.specs.Calls.{undrawn, undrawn_count}
 use Rattle.history.proofs.Drawn.{drawn_from, length-drawn, take-drawn}
 use Rattle.history.proofs.RowEdits.{placed_at, moved_at, dropped_at}
 use Rattle.history.proofs.Measures.{Accepted}

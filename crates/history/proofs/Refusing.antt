@@ -1,5 +1,5 @@
 -- A refused call leaves the frame and both rows as they were.
-use Rattle.std.proofs.Common.{◌≡◌, ℕ, ◌+◌, ◌-◌, Bool, true, false, cond, eqb, ltb, List, length, Some, None, Ok, Err, Result, sym, refl, ap, ◌∙◌, arith}
+use Rattle.std.proofs.Common.{◌≡◌, ℕ, ◌+◌, ◌-◌, Bool, true, false, cond, eqb, ltb, List, length, Some, Ok, Err, Result, refl, ap}
 use lib.Ieee.{Float}
 use Rattle.geomath.specs.Angles.{accepts}
 use Rattle.surface.specs.declared.refusals.Refusal.{Refusal}
@@ -14,28 +14,23 @@ use Rattle.history.specs.declared.Frame.{Frame}
 use Rattle.history.specs.declared.Measurement.{Measurement}
 use Rattle.history.specs.declared.Call.{Call}
 use Rattle.history.specs.declared.Call.TheVariants.{Add, Move, Drop, TakeBack, Measure}
-use Rattle.history.specs.declared.Answer.{Answer}
-use Rattle.history.specs.declared.Answer.TheVariants.{Refused}
-use Rattle.history.specs.Calls.{After, lengths_of, same_lengths, newest_of, undrawn, refuse, edited, on_rows, taken_back, add_of, move_of, drop_of, take_back_of, measure_of, edit_answer, measure_answer, done_by, done_of}
+use Rattle.history.specs.Calls.{Answer, After, lengths_of, same_lengths, newest_of, undrawn, refuse, edited, on_rows, taken_back, add_of, move_of, drop_of, take_back_of, measure_of, edit_answer, measure_answer, done_by, done_of}
 use Rattle.history.specs.Histories.{refusal_in}
-
-not_granted : (e : Refusal) → None ≡ Some e → ⊥
-not_granted e is = let z : ◌≡◌ {A = ℕ} 0 1 = cc in omega arith
 
 module _ (edge : Solve) (f : Frame) (stations : List Station) (edits : List EditRecord) where
   -- nothing is changed where a refusal is answered
   Keeps : After → Type 0
-  Keeps a = (e : Refusal) → refusal_in (edit_answer a.answer) ≡ Some e → done_by a ≡ record { answer = Refused e; frame = f; stations = stations; edits = edits }
+  Keeps a = (e : Refusal) → refusal_in (edit_answer a.answer) ≡ Some e → done_by a ≡ record { answer = Err e; frame = f; stations = stations; edits = edits }
 
   keeps_refuse : (e : Refusal) → Keeps (refuse edge f stations edits e)
   unfolding Keeps
   keeps_refuse e d is =
       let same : e ≡ d = cc in
-      ap (λ (x : Refusal). record { answer = Refused x; frame = f; stations = stations; edits = edits }) same
+      ap (λ (x : Refusal). record { answer = Err x; frame = f; stations = stations; edits = edits }) same
 
   keeps_done : (a : After) (cost : Cost) → a.answer ≡ Ok cost → Keeps a
   unfolding Keeps
-  keeps_done a cost is e refused = absurd (not_granted e (sym (ap (λ (r : Result Cost Refusal). refusal_in (edit_answer r)) is) ∙ refused))
+  keeps_done a cost is e refused = absurd (cc)
 
   keeps_cond : (b : Bool) (x y : After) → Keeps x → Keeps y → Keeps (cond b x y)
   keeps_cond true x y kx ky = kx
@@ -91,11 +86,11 @@ module _ (edge : Solve) (f : Frame) (stations : List Station) (edits : List Edit
       (keeps_cond (eqb f.counts.edits 0) (refuse edge f stations edits NothingToTakeBack) here (keeps_refuse NothingToTakeBack)
       (keeps_if fits made UnfitRecord (keeps_done made (undrawn edge stations f.counts.stations e).cost refl)))
 
-  keeps_measure : (r : Result Measurement Refusal) (e : Refusal) → refusal_in (measure_answer r) ≡ Some e → measure_answer r ≡ Refused e
-  keeps_measure (Ok m) e is = absurd (not_granted e is)
-  keeps_measure (Err d) e is = let same : d ≡ e = cc in ap Refused same
+  keeps_measure : (r : Result Measurement Refusal) (e : Refusal) → refusal_in (measure_answer r) ≡ Some e → measure_answer r ≡ Err e
+  keeps_measure (Ok m) e is = absurd (cc)
+  keeps_measure (Err d) e is = let same : d ≡ e = cc in ap Err same
 
-pub refused_same : (edge : Solve) (whole : Float) (f : Frame) (stations : List Station) (edits : List EditRecord) (call : Call) (e : Refusal) → refusal_in (done_of edge whole f stations edits call).answer ≡ Some e → done_of edge whole f stations edits call ≡ record { answer = Refused e; frame = f; stations = stations; edits = edits }
+pub refused_same : (edge : Solve) (whole : Float) (f : Frame) (stations : List Station) (edits : List EditRecord) (call : Call) (e : Refusal) → refusal_in (done_of edge whole f stations edits call).answer ≡ Some e → done_of edge whole f stations edits call ≡ record { answer = Err e; frame = f; stations = stations; edits = edits }
 unfolding Keeps
 refused_same edge whole f stations edits (Add lat lon) e is = keeps_add edge f stations edits lat lon e is
 refused_same edge whole f stations edits (Move place lat lon) e is = keeps_move edge f stations edits place lat lon e is

@@ -12,14 +12,13 @@ use Rattle.stations.specs.declared.records.EditRecord.{EditRecord}
 use Rattle.history.specs.declared.Sizes.{Sizes}
 use Rattle.history.specs.declared.Frame.{Frame}
 use Rattle.history.specs.declared.Call.{Call}
-use Rattle.history.specs.declared.Answer.{Answer}
-use Rattle.history.specs.Calls.{open_refusal, opened, lengths_of, same_lengths, done_of}
+use Rattle.history.specs.Calls.{Answer, open_refusal, opened, lengths_of, same_lengths, done_of}
 use Rattle.history.specs.Book.{Book, empty_book, refusal_on, book_refusal, book_after, changed, unless_refused}
 use Rattle.history.specs.Replays.{ran, calls_made, replay_from, replay_of, AnswersAgree}
 use Rattle.history.proofs.Following.{Follows, call_right}
 use Rattle.history.proofs.Law.{opening_follows, opening_bound}
 
-same_itself : (s : Sizes) → same_lengths s s ≡ true
+pub same_itself : (s : Sizes) → same_lengths s s ≡ true
 same_itself s = and_from (eqb s.stations s.stations) (eqb s.edits s.edits) (eq-eqb s.stations s.stations refl) (eq-eqb s.edits s.edits refl)
 
 module _ (edge : Solve) (whole : Float) (winding : Winding) (opening : Sizes) (bound : opening.stations ≤ 4096) where

@@ -3,38 +3,34 @@ use Rattle.std.proofs.Common.{◌≡◌, ℕ, zero, suc, ◌+◌, ◌-◌, ◌<�
 use lib.Seq.{take-length, drop-length}
 use lib.Ieee.{Float}
 use Rattle.std.specs.List.{insert}
-use Rattle.std.proofs.lemmas.List.{append-nil, length_push}
+use Rattle.std.proofs.lemmas.List.{take-map, append-nil, length_push}
 use Rattle.std.proofs.lemmas.Bool.{both_ways, ltb-true, leb-true, lt-ltb, le-ltb, eq-eqb, ne_eqb, and_parts, and_right, cases_Bool, cases_lt}
 use Rattle.geomath.specs.Angles.{accepts}
-use Rattle.surface.specs.declared.refusals.Refusal.{Refusal}
-use Rattle.surface.specs.declared.refusals.Refusal.TheVariants.{Point as PointOff, Full, Place, NothingToTakeBack}
+use Rattle.surface.specs.declared.refusals.Refusal.TheVariants.{Point as PointOff, Full, Place}
 use Rattle.area.specs.declared.Winding.{Winding}
 use Rattle.polygon.specs.declared.Point.{Point}
 use Rattle.polygon.specs.Polygons.{Solve, Ends, solved, first_of, last_of, origin, closing_edge}
 use Rattle.stations.specs.declared.Station.{Station}
 use Rattle.stations.specs.declared.records.EditRecord.{EditRecord}
 use Rattle.stations.specs.Stations.{point_of, point_at, one_edge, placed, moved, dropped}
-use Rattle.stations.specs.Records.{add_kind, move_kind, drop_kind, add_record, move_record, drop_record, fits_outline, noted, noted_count}
+use Rattle.stations.specs.Records.{old_point, add_kind, move_kind, drop_kind, add_record, move_record, drop_record, fits_outline, noted, noted_count}
 use Rattle.history.specs.declared.Sizes.{Sizes}
 use Rattle.history.specs.declared.Frame.{Frame}
 use Rattle.history.specs.declared.Call.{Call}
 use Rattle.history.specs.declared.Call.TheVariants.{Add, Move, Drop, TakeBack, Measure}
-use Rattle.history.specs.Calls.{After, Done, lengths_of, same_lengths, old_point, no_record, newest_of, undrawn, add_of, move_of, drop_of, take_back_of, measure_of, measure_answer, done_by, done_of}
+use Rattle.history.specs.Calls.{After, Outcome, lengths_of, same_lengths, no_record, newest_of, undrawn, add_of, move_of, drop_of, take_back_of, measure_of, measure_answer, done_by, done_of}
 use Rattle.history.specs.Book.{Book, refusal_on, changed}
 use Rattle.history.specs.Expenses.{arriving, beside, cost_of, cost_in, records_after, solved_back, solved_by}
 use Rattle.history.proofs.Outcomes.{add_done, move_done, drop_done, take_back_done, measure_done}
 use Rattle.history.proofs.Drawn.{points_drawn}
 use Rattle.history.proofs.Pasts.{newest_first, newest_noted, undone, Chain}
 use Rattle.history.proofs.Expenses.{At, point_at_lem, cost_one, placed_cost, moved_cost, dropped_cost}
-use Rattle.history.proofs.Following.{Follows}
+use Rattle.history.proofs.Following.{same as fitting_rows, Follows}
 
 -- a call did as the book says: its cost, and the records afterwards
-pub record Spends (edge : Solve) (most : ℕ) (b : Book) (records : List EditRecord) (call : Call) (d : Done) : Type 0 where
+pub record Spends (edge : Solve) (most : ℕ) (b : Book) (records : List EditRecord) (call : Call) (d : Outcome) : Type 0 where
   pub cost : cost_in d.answer ≡ cost_of edge (solved_by call records (changed most b call).standing)
   pub records_after_lem : newest_first d.edits d.frame.counts.edits ≡ records_after most b.standing records call
-
-refused_none : (e : Refusal) → Some e ≡ None → ⊥
-refused_none e is = let z : ◌≡◌ {A = ℕ} 0 1 = cc in omega arith
 
 module _ (edge : Solve) (whole : Float) (winding : Winding) (opening : Sizes) (b : Book) (f : Frame) (stations : List Station) (edits : List EditRecord) (r : Follows edge winding opening b f stations edits) where
   abbrev ps : List Point
@@ -44,21 +40,13 @@ module _ (edge : Solve) (whole : Float) (winding : Winding) (opening : Sizes) (b
   records = newest_first edits f.counts.edits
 
   same : same_lengths (lengths_of stations edits) f.lengths ≡ true
-  same =
-      let long : length stations ≡ f.lengths.stations = r.station_row ∙ ap (λ (s : Sizes). s.stations) (sym r.lengths) in
-      let short : length edits ≡ f.lengths.edits = r.edit_row ∙ ap (λ (s : Sizes). s.edits) (sym r.lengths) in
-      rw (eq-eqb (length stations) f.lengths.stations long, eq-eqb (length edits) f.lengths.edits short)
+  same = fitting_rows edge whole winding opening b f stations edits r
 
   row_points : map point_of (take (length ps) stations) ≡ ps
   row_points = ap (map point_of) r.holds.stations ∙ points_drawn edge None ps
 
   at : At stations ps
-  at = record { points = sym (map-take (length ps) stations) ∙ row_points; held = r.holds.held }
-    where
-      map-take : (n : ℕ) (l : List Station) → map point_of (take n l) ≡ take n (map point_of l)
-      map-take zero l = refl
-      map-take (suc n) [] = refl
-      map-take (suc n) (x ∷ l) = ap (λ (q : List Point). point_of x ∷ q) (map-take n l)
+  at = record { points = take-map point_of (length ps) stations ∙ row_points; held = r.holds.held }
 
   -- the record that is noted goes in front, and the row keeps the newest
   noted-front : (e e₀ : EditRecord) → e ≡ e₀ → newest_first (noted edits f.counts.edits e) (noted_count edits f.counts.edits) ≡ take opening.edits (e₀ ∷ records)
@@ -103,8 +91,8 @@ module _ (edge : Solve) (whole : Float) (winding : Winding) (opening : Sizes) (b
     pub add_spends : refusal_on (length stations) b (Add lat lon) ≡ None → Spends edge opening.edits b records (Add lat lon) (done_by (add_of edge f stations edits lat lon))
     add_spends granted =
         ⊎_elim
-        (λ on. ⊎_elim (added on) (λ full. absurd (refused_none Full (sym (full_says on full) ∙ granted))) (cases_lt f.counts.stations (length stations)))
-        (λ (off : accepts lat lon ≡ false). let says : refusal_on (length stations) b (Add lat lon) ≡ Some PointOff = rw off in absurd (refused_none PointOff (sym says ∙ granted)))
+        (λ on. ⊎_elim (added on) (λ full. absurd (cc (full_says on full))) (cases_lt f.counts.stations (length stations)))
+        (λ (off : accepts lat lon ≡ false). let says : refusal_on (length stations) b (Add lat lon) ≡ Some PointOff = rw off in absurd (cc))
         (cases_Bool (accepts lat lon))
       where
         full_says : accepts lat lon ≡ true → length stations ≤ f.counts.stations → refusal_on (length stations) b (Add lat lon) ≡ Some Full
@@ -119,7 +107,7 @@ module _ (edge : Solve) (whole : Float) (winding : Winding) (opening : Sizes) (b
     placed-low granted =
         ⊎_elim
         (λ low. low)
-        (λ above. let says : refusal_on (length stations) b (Drop place) ≡ Some Place = rw (le-ltb place (length b.standing) above) in absurd (refused_none Place (sym says ∙ granted)))
+        (λ above. let says : refusal_on (length stations) b (Drop place) ≡ Some Place = rw (le-ltb place (length b.standing) above) in absurd (cc))
         (cases_lt place (length b.standing))
 
     pub drop_spends : refusal_on (length stations) b (Drop place) ≡ None → Spends edge opening.edits b records (Drop place) (done_by (drop_of edge f stations edits place))
@@ -148,8 +136,8 @@ module _ (edge : Solve) (whole : Float) (winding : Winding) (opening : Sizes) (b
       pub move_spends : refusal_on (length stations) b (Move place lat lon) ≡ None → Spends edge opening.edits b records (Move place lat lon) (done_by (move_of edge f stations edits place lat lon))
       move_spends granted =
           ⊎_elim
-          (λ low. ⊎_elim (λ on. moves on low) (λ (off : accepts lat lon ≡ false). let says : refusal_on (length stations) b (Move place lat lon) ≡ Some PointOff = rw (lt-ltb place (length b.standing) low, off) in absurd (refused_none PointOff (sym says ∙ granted))) (cases_Bool (accepts lat lon)))
-          (λ above. let says : refusal_on (length stations) b (Move place lat lon) ≡ Some Place = rw (le-ltb place (length b.standing) above) in absurd (refused_none Place (sym says ∙ granted)))
+          (λ low. ⊎_elim (λ on. moves on low) (λ (off : accepts lat lon ≡ false). let says : refusal_on (length stations) b (Move place lat lon) ≡ Some PointOff = rw (lt-ltb place (length b.standing) low, off) in absurd (cc)) (cases_Bool (accepts lat lon)))
+          (λ above. let says : refusal_on (length stations) b (Move place lat lon) ≡ Some Place = rw (le-ltb place (length b.standing) above) in absurd (cc))
           (cases_lt place (length b.standing))
 
   -- ---- measure
@@ -208,7 +196,7 @@ module _ (edge : Solve) (whole : Float) (winding : Winding) (opening : Sizes) (f
       let undoes : undone ps e ≡ before = ap (undone ps) (sym newest) ∙ chain.1 in
       let ne : f.counts.edits ≡ 0 → ⊥ = λ z. omega (arith, some) in
       let fitting : fits_outline count (length stations) e ≡ true = ap (λ n. fits_outline n (length stations) e) r.holds.counted ∙ fits in
-      subst (λ (a : After). Spends edge opening.edits b (newest_first edits f.counts.edits) TakeBack (done_by a)) (sym (take_back_done edge f stations edits (same edge whole winding opening b f stations edits r) (ne_eqb f.counts.edits 0 ne) fitting))
+      subst (λ (a : After). Spends edge opening.edits b (newest_first edits f.counts.edits) TakeBack (done_by a)) (sym (take_back_done edge f stations edits (fitting_rows edge whole winding opening b f stations edits r) (ne_eqb f.counts.edits 0 ne) fitting))
       (record {
         cost =
             ap (λ n. (undrawn edge stations n e).cost) r.holds.counted
@@ -221,7 +209,7 @@ module _ (edge : Solve) (whole : Float) (winding : Winding) (opening : Sizes) (f
       row_at b r = at edge whole winding opening b f stations edits r
 
   by_past : (ps : List Point) (past : List (List Point)) (n : ℕ) → f.counts.edits ≡ n → Follows edge winding opening (record { standing = ps; past = past }) f stations edits → refusal_on (length stations) (record { standing = ps; past = past }) TakeBack ≡ None → Spends edge opening.edits (record { standing = ps; past = past }) (newest_first edits f.counts.edits) TakeBack (done_by (take_back_of edge f stations edits))
-  by_past ps [] n is r granted = absurd (refused_none NothingToTakeBack granted)
+  by_past ps [] n is r granted = absurd (cc)
   by_past ps (before ∷ past) zero none r granted = absurd (subst (λ n. Chain opening.stations ps (newest_first edits n) (before ∷ past)) none r.past)
   by_past ps (before ∷ past) (suc m) some r granted = back ps before past m some r
 

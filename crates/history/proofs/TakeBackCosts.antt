@@ -5,10 +5,10 @@ use Rattle.geomath.specs.Angles.{accepts}
 use Rattle.polygon.specs.Polygons.{Solve}
 use Rattle.stations.specs.declared.Station.{Station}
 use Rattle.stations.specs.declared.records.EditRecord.{EditRecord}
-use Rattle.stations.specs.Records.{add_kind, move_kind, drop_kind, fits_outline}
+use Rattle.stations.specs.Records.{old_point, add_kind, move_kind, drop_kind, fits_outline}
 use Rattle.stations.specs.Costs.{take_back_edges}
 use Rattle.stations.proofs.Costing.{placed_edges, moved_edges}
-use Rattle.history.specs.Calls.{old_point, undrawn}
+use Rattle.history.specs.Calls.{undrawn}
 
 module _ (edge : Solve) (row : List Station) (count : ℕ) (held : count ≤ length row) (e : EditRecord) (fit : fits_outline count (length row) e ≡ true) where
   move_back : eqb e.kind add_kind ≡ false → eqb e.kind move_kind ≡ true → (undrawn edge row count e).cost.edges ≡ take_back_edges count e

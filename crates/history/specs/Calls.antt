@@ -1,11 +1,11 @@
 -- What each call on an outline answers and leaves, of what it finds: the frame and the two rows. Assumes nothing.
 use Rattle.std.specs.Prelude.{ℕ, ◌+◌, ◌-◌, Bool, cond, ◌&&◌, List, map, length, take, pos, Some, None, Ok, Err, Option, Result, ◌==◌, nat_le, nat_lt, slice_index_or, Float}
 use Rattle.std.specs.Float.{nan}
+use Rattle.std.specs.Result.{result_map_both}
 use Rattle.geomath.specs.Angles.{zero, accepts}
 use Rattle.surface.specs.declared.refusals.Refusal.{Refusal}
 use Rattle.surface.specs.declared.refusals.Refusal.TheVariants.{Point as PointOff, RowLength, Full, Place, NothingToTakeBack, UnfitRecord}
 use Rattle.area.specs.declared.Winding.{Winding}
-use Rattle.polygon.specs.declared.Point.{Point}
 use Rattle.polygon.specs.declared.Traverse.{Traverse}
 use Rattle.polygon.specs.Polygons.{Solve, solved, first_of, last_of, added_to, counted_to}
 use Rattle.polygon.specs.Traverses.{closed}
@@ -13,14 +13,14 @@ use Rattle.stations.specs.declared.Cost.{Cost}
 use Rattle.stations.specs.declared.Station.{Station}
 use Rattle.stations.specs.declared.records.EditRecord.{EditRecord}
 use Rattle.stations.specs.Stations.{Drawing, point_of, point_at, one_edge, unchanged, placed, moved, dropped}
-use Rattle.stations.specs.Records.{add_kind, move_kind, add_record, move_record, drop_record, fits_outline, noted, noted_count}
+use Rattle.stations.specs.Records.{add_kind, move_kind, add_record, move_record, drop_record, old_point, fits_outline, noted, noted_count}
 use Rattle.history.specs.declared.Sizes.{Sizes}
 use Rattle.history.specs.declared.Frame.{Frame}
 use Rattle.history.specs.declared.Measurement.{Measurement}
 use Rattle.history.specs.declared.Call.{Call}
 use Rattle.history.specs.declared.Call.TheVariants.{Add, Move, Drop, TakeBack, Measure}
-use Rattle.history.specs.declared.Answer.{Answer}
-use Rattle.history.specs.declared.Answer.TheVariants.{Edited, Measured, Refused}
+use Rattle.history.specs.declared.Done.{Done}
+use Rattle.history.specs.declared.Done.TheVariants.{Edited, Measured}
 
 -- ---- opening
 
@@ -39,11 +39,18 @@ opened winding stations edits =
 
 -- ---- what an edit answers and leaves
 
-pub record After : Type 0 where
-  pub answer : Result Cost Refusal
+-- an answer, and the frame and the two rows as they are left
+pub record Left (A : Type 0) : Type 0 where
+  pub answer : A
   pub frame : Frame
   pub stations : List Station
   pub edits : List EditRecord
+
+abbrev pub left : {A : Type 0} → A → Frame → List Station → List EditRecord → Left A
+left answer f stations edits = record { answer = answer; frame = f; stations = stations; edits = edits }
+
+abbrev pub After : Type 0
+After = Left (Result Cost Refusal)
 
 abbrev pub lengths_of : List Station → List EditRecord → Sizes
 lengths_of stations edits = record { stations = length stations; edits = length edits }
@@ -54,10 +61,6 @@ same_lengths a b = a.stations == b.stations && a.edits == b.edits
 abbrev pub with_counts : Frame → ℕ → ℕ → Frame
 with_counts f stations edits =
     record { winding = f.winding; lengths = f.lengths; counts = record { stations = stations; edits = edits } }
-
--- the point that an edit record keeps
-abbrev pub old_point : EditRecord → Point
-old_point e = record { lat = e.lat; lon = e.lon }
 
 -- what stands where a row has no slot
 abbrev pub no_record : EditRecord
@@ -167,25 +170,27 @@ measure_of edge whole f stations edits sign =
 
 -- ---- any call
 
-pub record Done : Type 0 where
-  pub answer : Answer
-  pub frame : Frame
-  pub stations : List Station
-  pub edits : List EditRecord
+-- what a call did, or why it is refused
+abbrev pub Answer : Type 0
+Answer = Result Done Refusal
+
+abbrev pub Outcome : Type 0
+Outcome = Left Answer
+
+abbrev pub answer_by : {A : Type 0} → (A → Done) → Result A Refusal → Answer
+answer_by done = result_map_both done (λ e. e)
 
 abbrev pub edit_answer : Result Cost Refusal → Answer
-edit_answer (Ok cost) = Edited cost
-edit_answer (Err e) = Refused e
+edit_answer = answer_by Edited
 
 abbrev pub measure_answer : Result Measurement Refusal → Answer
-measure_answer (Ok m) = Measured m
-measure_answer (Err e) = Refused e
+measure_answer = answer_by Measured
 
-abbrev pub done_by : After → Done
+abbrev pub done_by : After → Outcome
 done_by a =
     record { answer = edit_answer a.answer; frame = a.frame; stations = a.stations; edits = a.edits }
 
-abbrev pub done_of : Solve → Float → Frame → List Station → List EditRecord → Call → Done
+abbrev pub done_of : Solve → Float → Frame → List Station → List EditRecord → Call → Outcome
 done_of edge whole f stations edits (Add lat lon) = done_by (add_of edge f stations edits lat lon)
 done_of edge whole f stations edits (Move place lat lon) = done_by (move_of edge f stations edits place lat lon)
 done_of edge whole f stations edits (Drop place) = done_by (drop_of edge f stations edits place)

@@ -1,5 +1,5 @@
 -- What the calls on an outline cost, by the book: the edges that a call solves, of the points that stand afterwards, and what each entry of the past undoes. Assumes nothing.
-use Rattle.std.specs.Prelude.{ℕ, ◌+◌, ◌-◌, ◌≤◌, cond, ◌&&◌, List, [], ◌∷◌, ◌++◌, length, take, drop, ◌==◌, nat_lt, slice_index_or}
+use Rattle.std.specs.Prelude.{ℕ, ◌+◌, ◌-◌, ◌≤◌, cond, ◌&&◌, List, [], ◌∷◌, ◌++◌, length, take, drop, Ok, Err, ◌==◌, nat_lt, slice_index_or}
 use Rattle.polygon.specs.declared.Point.{Point}
 use Rattle.polygon.specs.Polygons.{Solve, Ends, solved, origin, closing_edge}
 use Rattle.stations.specs.declared.Cost.{Cost}
@@ -8,8 +8,9 @@ use Rattle.stations.specs.Stations.{free, one_edge, together}
 use Rattle.stations.specs.Records.{add_kind, add_record, move_record, drop_record}
 use Rattle.history.specs.declared.Call.{Call}
 use Rattle.history.specs.declared.Call.TheVariants.{Add, Move, Drop, TakeBack, Measure}
-use Rattle.history.specs.declared.Answer.{Answer}
-use Rattle.history.specs.declared.Answer.TheVariants.{Edited, Measured, Refused}
+use Rattle.history.specs.declared.Done.{Done}
+use Rattle.history.specs.declared.Done.TheVariants.{Edited, Measured}
+use Rattle.history.specs.Calls.{Answer}
 
 -- ---- edges
 
@@ -27,11 +28,15 @@ abbrev pub cost_of : Solve → List Ends → Cost
 cost_of edge [] = free
 cost_of edge (e ∷ es) = together (one_edge (solved edge e).evaluations) (cost_of edge es)
 
+-- what a call cost that was made
+abbrev pub cost_of_done : Done → Cost
+cost_of_done (Edited cost) = cost
+cost_of_done (Measured m) = m.cost
+
 -- what an answer tells of its cost
 abbrev pub cost_in : Answer → Cost
-cost_in (Edited cost) = cost
-cost_in (Measured m) = m.cost
-cost_in (Refused e) = free
+cost_in (Ok done) = cost_of_done done
+cost_in (Err e) = free
 
 -- at most two edges, each by at most 83 evaluations
 abbrev pub Affordable : Cost → Type 0

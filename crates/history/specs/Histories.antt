@@ -1,5 +1,5 @@
 -- The law of an outline's history: while storage is untouched, each call is refused as the book says, and each measure is that of a new PolygonArea over the standing points. Assumes nothing.
-use Rattle.std.specs.Prelude.{◌≡◌, Bool, true, cond, List, [], ◌∷◌, length, Some, None, Option, Float}
+use Rattle.std.specs.Prelude.{◌≡◌, Bool, true, cond, List, [], ◌∷◌, length, Some, None, Ok, Err, Option, Float}
 use Rattle.surface.specs.declared.refusals.Refusal.{Refusal}
 use Rattle.area.specs.declared.Winding.{Winding}
 use Rattle.polygon.specs.declared.Point.{Point}
@@ -14,9 +14,8 @@ use Rattle.history.specs.declared.Frame.{Frame}
 use Rattle.history.specs.declared.Measurement.{Measurement}
 use Rattle.history.specs.declared.Call.{Call}
 use Rattle.history.specs.declared.Call.TheVariants.{Measure}
-use Rattle.history.specs.declared.Answer.{Answer}
-use Rattle.history.specs.declared.Answer.TheVariants.{Edited, Measured, Refused}
-use Rattle.history.specs.Calls.{open_refusal, opened, lengths_of, same_lengths, Done, done_of}
+use Rattle.history.specs.declared.Done.TheVariants.{Measured}
+use Rattle.history.specs.Calls.{Answer, open_refusal, opened, lengths_of, same_lengths, Outcome, done_of}
 use Rattle.history.specs.Book.{Book, empty_book, book_refusal, book_after}
 
 -- ---- a history
@@ -28,7 +27,7 @@ pub record Event : Type 0 where
   pub stations : List Station
   pub edits : List EditRecord
 
-abbrev pub done_at : Solve → Float → Event → Done
+abbrev pub done_at : Solve → Float → Event → Outcome
 done_at edge whole e = done_of edge whole e.frame e.stations e.edits e.call
 
 -- the rows are as long as at opening
@@ -48,9 +47,8 @@ Untouched edge whole f stations edits (e ∷ es) =
 -- ---- agreement with the book
 
 abbrev pub refusal_in : Answer → Option Refusal
-refusal_in (Edited cost) = None
-refusal_in (Measured m) = None
-refusal_in (Refused e) = Some e
+refusal_in (Ok done) = None
+refusal_in (Err e) = Some e
 
 -- what a PolygonArea holds once it is given these points, one after the other
 unfoldable pub given : Solve → Traverse → List Point → Traverse
@@ -64,7 +62,7 @@ computed edge whole winding sign points = closed edge whole winding sign (given 
 -- the call was a measure that was not refused: its figures are those of a new PolygonArea over the standing points, which are those of the polygon with these points
 abbrev pub FiguresAgree : Solve → Float → Winding → List Point → Call → Answer → Type 0
 FiguresAgree edge whole winding standing call answer =
-    (sign : Bool) (m : Measurement) → call ≡ Measure sign → answer ≡ Measured m → (m.figures ≡ computed edge whole winding sign standing) × (m.figures ≡ figures_of edge whole winding sign standing)
+    (sign : Bool) (m : Measurement) → call ≡ Measure sign → answer ≡ Ok (Measured m) → (m.figures ≡ computed edge whole winding sign standing) × (m.figures ≡ figures_of edge whole winding sign standing)
 
 pub record Agree (edge : Solve) (whole : Float) (winding : Winding) (lengths : Sizes) (b : Book) (e : Event) : Type 0 where
   pub refusal : refusal_in (done_at edge whole e).answer ≡ book_refusal lengths (lengths_of e.stations e.edits) b e.call

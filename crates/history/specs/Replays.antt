@@ -8,8 +8,7 @@ use Rattle.stations.specs.declared.records.EditRecord.{EditRecord}
 use Rattle.history.specs.declared.Sizes.{Sizes}
 use Rattle.history.specs.declared.Frame.{Frame}
 use Rattle.history.specs.declared.Call.{Call}
-use Rattle.history.specs.declared.Answer.{Answer}
-use Rattle.history.specs.Calls.{open_refusal, opened, done_of}
+use Rattle.history.specs.Calls.{Answer, open_refusal, opened, done_of}
 use Rattle.history.specs.Book.{Book, book_refusal, book_after}
 use Rattle.history.specs.Histories.{refusal_in, FiguresAgree}
 
@@ -39,6 +38,10 @@ pub record Replay : Type 0 where
   pub stations : List Station
   pub edits : List EditRecord
   pub answers : List Answer
+
+abbrev pub replayed : Result ℕ Refusal → List Station → List EditRecord → List Answer → Replay
+replayed answer stations edits answers =
+    record { answer = answer; stations = stations; edits = edits; answers = answers }
 
 abbrev pub replay_from : Option Refusal → Ran → ℕ → List Station → List EditRecord → List Answer → Replay
 replay_from (Some e) later made stations edits answers =

@@ -1,5 +1,5 @@
 -- The area S12 between a geodesic and the equator, Karney (2013), eqs. 58, 59 and 62: c² (α2 - α1), the area on the authalic sphere, and the term by which the ellipsoid differs. Assumes nothing.
-use Rattle.std.specs.Prelude.{false, cond, not, ◌&&◌, ◌||◌, List, ◌==◌, Float}
+use Rattle.std.specs.Prelude.{false, cond, ◌&&◌, ◌||◌, List, Float}
 use Rattle.std.specs.Float.Ieee.{neg}
 use Rattle.functions.specs.Sets.{Funcs}
 use Rattle.floats.specs.Arithmetic.{◌⊕◌, ◌⊖◌, ◌⊗◌, ◌≺◌, ◌≻◌, ◌≗◌}
@@ -13,6 +13,8 @@ use Rattle.ellipsoid.specs.declared.shape.Ellipsoid.{Ellipsoid}
 use Rattle.ellipsoid.specs.declared.latitudes.Ends.{Ends}
 use Rattle.ellipsoid.specs.declared.latitudes.Difference.{Difference}
 use Rattle.inverse.specs.declared.paths.Path.{Path}
+use Rattle.inverse.specs.declared.paths.Way.{Way}
+use Rattle.inverse.specs.declared.paths.Way.TheVariants.{Meridian, Direct, Newton}
 
 -- ---- the ellipsoid's term e² a² cos α0 sin α0 (I4(σ2) - I4(σ1))
 
@@ -46,14 +48,12 @@ excess F E e p =
 
 -- ---- α12 = α2 - α1
 
--- sine and cosine of ω12: where the longitude equation was not evaluated, of ω12 itself, and else of λ12 less what it differs from ω12
-unfoldable pub sin_omega : Funcs → Difference → Path → Float
-sin_omega F d p =
-    cond (p.evaluations == 0) (F.sin_of p.omg12) (d.slam12 ⊗ F.cos_of p.domg12 ⊖ d.clam12 ⊗ F.sin_of p.domg12)
+-- sine and cosine of ω12 where it is λ12 less domg12
+unfoldable pub sin_less : Funcs → Difference → Float → Float
+sin_less F d domg12 = d.slam12 ⊗ F.cos_of domg12 ⊖ d.clam12 ⊗ F.sin_of domg12
 
-unfoldable pub cos_omega : Funcs → Difference → Path → Float
-cos_omega F d p =
-    cond (p.evaluations == 0) (F.cos_of p.omg12) (d.clam12 ⊗ F.cos_of p.domg12 ⊕ d.slam12 ⊗ F.sin_of p.domg12)
+unfoldable pub cos_less : Funcs → Difference → Float → Float
+cos_less F d domg12 = d.clam12 ⊗ F.cos_of domg12 ⊕ d.slam12 ⊗ F.sin_of domg12
 
 -- by half angles from ω12 and the latitudes, for a line that is not too long
 unfoldable pub turn_by_omega : Funcs → Ends → Float → Float → Float
@@ -75,11 +75,19 @@ turn_by_azimuths F z z2 =
     (F.atan2_of (tiny ⊗ z.calp) (neg one))
     (F.atan2_of (salp12 z z2) (calp12 z z2))
 
+-- from ω12 where it is up to three quarters of a half turn and the latitudes are not nearly a half turn apart
+abbrev pub turn_around : Funcs → Ends → Path → Float → Float → Float
+turn_around F e p somg12 comg12 =
+    cond ((comg12 ≻ neg root_half) && (e.sbet2 ⊖ e.sbet1 ≺ seven_quarters)) (turn_by_omega F e somg12 comg12) (turn_by_azimuths F p.alp1 p.alp2)
+
+-- ω12 is known where the longitude equation was not evaluated, and else λ12 less it
+abbrev pub turn_along : Funcs → Ends → Difference → Path → Way → Float
+turn_along F e d p Meridian = turn_by_azimuths F p.alp1 p.alp2
+turn_along F e d p (Direct omg12) = turn_around F e p (F.sin_of omg12) (F.cos_of omg12)
+turn_along F e d p (Newton domg12 count) = turn_around F e p (sin_less F d domg12) (cos_less F d domg12)
+
 unfoldable pub turn_off : Funcs → Ends → Difference → Path → Float
-turn_off F e d p =
-    cond (not p.meridian && (cos_omega F d p ≻ neg root_half) && (e.sbet2 ⊖ e.sbet1 ≺ seven_quarters))
-    (turn_by_omega F e (sin_omega F d p) (cos_omega F d p))
-    (turn_by_azimuths F p.alp1 p.alp2)
+turn_off F e d p = turn_along F e d p p.way
 
 -- ---- S12 in canonical form
 

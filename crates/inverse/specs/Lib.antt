@@ -1,3 +1,5 @@
+pub mod Wanted
+pub mod Tasks
 pub mod Canonical
 pub mod Paths
 pub mod AreaTerm

@@ -8,6 +8,7 @@ use Rattle.floats.specs.Arithmetic.{◌≼◌, bits}
 use Rattle.geomath.specs.Angles.{accepts}
 use Rattle.inverse.specs.Inverse.{inverse}
 use Rattle.ellipsoid.specs.declared.shape.Ellipsoid.{Ellipsoid}
+use Rattle.inverse.specs.declared.problem.Directions.{Directions}
 use Rattle.inverse.specs.declared.problem.Inverse.{Inverse}
 
 -- 2 ^ -57 degree
@@ -22,7 +23,7 @@ pub record OffEquator (lat lon : Float) : Type 0 where
   pub off : (least_latitude ≼ float_with_sign false lat) ≡ true
 
 -- the same bits in s12, a12 and m12
-pub record SameLengths (r q : Inverse) : Type 0 where
+pub record SameLengths (r q : Inverse Directions) : Type 0 where
   pub s12 : r.s12 ≡ q.s12
   pub a12 : r.a12 ≡ q.a12
   pub m12 : r.m12 ≡ q.m12

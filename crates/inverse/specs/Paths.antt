@@ -1,9 +1,9 @@
 -- The geodesic between two points in canonical form: along a meridian, along the equator, by the great circle of a short line, or by Newton's method. Assumes nothing.
-use Rattle.std.specs.Prelude.{ℕ, Bool, true, false, cond, ◌&&◌, ◌||◌, bit_or, Float}
+use Rattle.std.specs.Prelude.{ℕ, Bool, cond, ◌&&◌, ◌||◌, bit_or, Float}
 use Rattle.std.specs.Float.Ieee.{neg}
 use Rattle.functions.specs.Sets.{Funcs}
 use Rattle.floats.specs.Arithmetic.{◌⊗◌, ◌⊘◌, ◌≺◌, ◌≼◌, ◌≽◌, ◌≗◌}
-use Rattle.geomath.specs.Angles.{zero, one, square, quarter_turn, half_turn, not_a_number}
+use Rattle.geomath.specs.Angles.{zero, one, square, quarter_turn, half_turn}
 use Rattle.series.specs.Degrees.{degrees}
 use Rattle.ellipsoid.specs.Arcs.{arc_of}
 use Rattle.ellipsoid.specs.Capabilities.{wants, distance, reduced_length, geodesic_scale, differential}
@@ -20,7 +20,16 @@ use Rattle.ellipsoid.specs.declared.latitudes.Difference.{Difference}
 use Rattle.ellipsoid.specs.declared.lengths.Lengths.{Lengths}
 use Rattle.azimuth.specs.declared.newton.Found.{Found}
 use Rattle.inverse.specs.declared.paths.Path.{Path}
+use Rattle.inverse.specs.declared.paths.Way.{Way}
+use Rattle.inverse.specs.declared.paths.Way.TheVariants.{Meridian, Direct, Newton}
 use Rattle.azimuth.specs.declared.start.Start.{Start}
+use Rattle.inverse.specs.Wanted.{wanted_or_nan}
+
+-- how many times the longitude equation was evaluated
+abbrev pub evaluations_of : Way → ℕ
+evaluations_of Meridian = 0
+evaluations_of (Direct omg12) = 0
+evaluations_of (Newton domg12 count) = count
 
 -- ---- along a meridian
 
@@ -53,10 +62,7 @@ meridian_path E d arc l =
       M21 = l.M21;
       alp1 = record { salp = d.slam12; calp = d.clam12 };
       alp2 = record { salp = zero; calp = one };
-      meridian = true;
-      omg12 = zero;
-      domg12 = zero;
-      evaluations = 0;
+      way = Meridian;
     }
 
 -- ---- along the equator
@@ -73,7 +79,7 @@ due_east = record { salp = one; calp = zero }
 
 -- the cosine where the scales are wanted
 abbrev pub scale_if : Funcs → Float → ℕ → Float
-scale_if F angle mask = cond (wants mask geodesic_scale) (F.cos_of angle) not_a_number
+scale_if F angle mask = wanted_or_nan mask geodesic_scale (F.cos_of angle)
 
 unfoldable pub equator_path : Funcs → Ellipsoid → Canonical → Difference → ℕ → Path
 equator_path F E c d mask =
@@ -85,10 +91,7 @@ equator_path F E c d mask =
       M21 = scale_if F (equator_arc E d) mask;
       alp1 = due_east;
       alp2 = due_east;
-      meridian = false;
-      omg12 = equator_arc E d;
-      domg12 = zero;
-      evaluations = 0;
+      way = Direct (equator_arc E d);
     }
 
 -- ---- a short line: all figures are those of a sphere of the radius b dnm
@@ -103,10 +106,7 @@ short_path F E d s mask =
       M21 = scale_if F (s.sig12 ⊘ s.dnm) mask;
       alp1 = s.alp1;
       alp2 = s.alp2;
-      meridian = false;
-      omg12 = d.lam12 ⊘ (E.f1 ⊗ s.dnm);
-      domg12 = zero;
-      evaluations = 0;
+      way = Direct (d.lam12 ⊘ (E.f1 ⊗ s.dnm));
     }
 
 -- ---- by Newton's method
@@ -128,10 +128,7 @@ found_path E r l =
       M21 = l.M21;
       alp1 = r.alp1;
       alp2 = r.last.alp2;
-      meridian = false;
-      omg12 = zero;
-      domg12 = r.last.domg12;
-      evaluations = r.evaluations;
+      way = Newton r.last.domg12 r.evaluations;
     }
 
 unfoldable pub newton_path : Funcs → Ellipsoid → Ends → Difference → Start → ℕ → Path

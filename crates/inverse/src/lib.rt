@@ -5,5 +5,7 @@ pub mod area_term;
 pub mod canonical;
 pub mod paths;
 pub mod problem;
+pub mod task;
+mod wanted;
 
-pub use problem::{_gen_inverse, _gen_inverse_azi, Inverse, InverseAzi};
+pub use problem::{_gen_inverse, _gen_inverse_azi, Bearings, Directions, Inverse};

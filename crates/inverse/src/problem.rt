@@ -2,56 +2,41 @@
 ghost use Rattle.std.specs.Prelude.{◌≡◌};
 ghost use Rattle.inverse.specs.Inverse as Definitions;
 
-use crate::area_term::area_of;
-use crate::canonical::{Canonical, Signs, canonical_form};
-use crate::paths::{Path, path_of};
-use ellipsoid::arcs::Azimuth;
-use ellipsoid::capability::{AREA, AZIMUTH, DISTANCE, REDUCEDLENGTH, wanted};
-use ellipsoid::latitudes::{Difference, Ends, difference_of, ends_of};
+use crate::canonical::{Canonical, Signs};
+use crate::task::Task;
+use crate::wanted::wanted_or_nan;
+use azimuth::problem::Problem;
+use ellipsoid::capability::{AREA, AZIMUTH};
+use ellipsoid::latitudes::Difference;
 use ellipsoid::shape::Ellipsoid;
 use functions::FunctionSet;
 use series::atan2d;
+use surface::Edge;
 
-// The figures in canonical form, before the signs.
-#[derive(Clone, Copy)]
-pub struct Solved {
-    pub s12: f64,
-    pub m12: f64,
-    pub a12: f64,
-    pub M12: f64,
-    pub M21: f64,
-    pub S12: f64,
-    pub alp1: Azimuth,
-    pub alp2: Azimuth,
-    pub evaluations: u8,
-}
-
-// The arc length in degrees and the distance in metres; sine and cosine of the azimuths at both
-// points; the reduced length, the scales and the area; and how many times the longitude equation was
-// evaluated.
-#[derive(Clone, Copy)]
+// Sine and cosine of the azimuths at both points, under the crate's names, laid out as C has them.
+#[derive(Clone, Copy, Debug, PartialEq)]
 #[repr(C)]
-pub struct Inverse {
-    pub a12: f64,
-    pub s12: f64,
+pub struct Directions {
     pub salp1: f64,
     pub calp1: f64,
     pub salp2: f64,
     pub calp2: f64,
-    pub m12: f64,
-    pub M12: f64,
-    pub M21: f64,
-    pub S12: f64,
-    pub evaluations: u8,
 }
 
-// The same with bearings in degrees in the place of the azimuths' sines and cosines.
-#[derive(Clone, Copy)]
-pub struct InverseAzi {
-    pub a12: f64,
-    pub s12: f64,
+// Bearings at both points, in degrees.
+#[derive(Clone, Copy, Debug, PartialEq)]
+pub struct Bearings {
     pub azi1: f64,
     pub azi2: f64,
+}
+
+// The arc length in degrees and the distance in metres; the directions at both points; the reduced
+// length, the scales and the area; and how many times the longitude equation was evaluated.
+#[derive(Clone, Copy, Debug, PartialEq)]
+pub struct Inverse<D> {
+    pub a12: f64,
+    pub s12: f64,
+    pub directions: D,
     pub m12: f64,
     pub M12: f64,
     pub M21: f64,
@@ -59,128 +44,132 @@ pub struct InverseAzi {
     pub evaluations: u8,
 }
 
-// A length where it is wanted, a zero as +0, else NaN.
-fn length_if(mask: u64, figure: u64, length: f64) -> f64
-    ensures { result ≡ Definitions.length_if mask figure length }
-{
-    if wanted(mask, figure) {
-        0.0 + length
-    } else {
-        f64::NAN
+impl Directions {
+    // The directions with the points exchanged.
+    fn exchanged(self) -> Directions
+        ensures { result ≡ Definitions.exchanged_directions self }
+    {
+        Directions {
+            salp1: self.salp2,
+            calp1: self.calp2,
+            salp2: self.salp1,
+            calp2: self.calp1,
+        }
+    }
+
+    fn signed(self, k: Signs) -> Directions
+        ensures { result ≡ Definitions.signed_directions k self }
+    {
+        Directions {
+            salp1: self.salp1 * k.salp,
+            calp1: self.calp1 * k.calp,
+            salp2: self.salp2 * k.salp,
+            calp2: self.calp2 * k.calp,
+        }
+    }
+
+    // The bearings where they are wanted, else NaN, as in the crate.
+    fn bearings<F: FunctionSet>(self, set: &F, mask: u64) -> Bearings
+        ensures { result ≡ Definitions.bearings (F.funcs set.now) mask self }
+    {
+        Bearings {
+            azi1: wanted_or_nan(mask, AZIMUTH, || atan2d(set, self.salp1, self.calp1)),
+            azi2: wanted_or_nan(mask, AZIMUTH, || atan2d(set, self.salp2, self.calp2)),
+        }
     }
 }
 
-fn area_if<F: FunctionSet>(
-    set: &F,
-    shape: &Ellipsoid,
-    e: Ends,
-    d: Difference,
-    mask: u64,
-    p: Path,
-) -> f64
-    ensures { result ≡ Definitions.area_if (F.funcs set.now) shape.now e d mask p }
-{
-    if wanted(mask, AREA) {
-        area_of(set, shape, e, d, p)
-    } else {
-        f64::NAN
+impl Inverse<Directions> {
+    // The figures with the points exchanged.
+    #[tactic(auto, unfolding(crate::specs::Inverse::exchanged))]
+    fn exchanged(self) -> Inverse<Directions>
+        ensures { result ≡ Definitions.exchanged self }
+    {
+        Inverse {
+            directions: self.directions.exchanged(),
+            M12: self.M21,
+            M21: self.M12,
+            ..self
+        }
+    }
+
+    // The figures with their signs, a zero area as +0, and one that is not wanted as NaN, as in the crate.
+    #[tactic(auto, unfolding(crate::specs::Inverse::signed))]
+    fn signed(self, k: Signs, mask: u64) -> Inverse<Directions>
+        ensures { result ≡ Definitions.signed k mask self }
+    {
+        Inverse {
+            directions: self.directions.signed(k),
+            S12: wanted_or_nan(mask, AREA, || self.S12 * k.area + 0.0),
+            ..self
+        }
+    }
+
+    // From the canonical form back to the given points.
+    #[tactic(auto, unfolding(crate::specs::Inverse::restored))]
+    fn restored(self, k: Signs, mask: u64) -> Inverse<Directions>
+        ensures { result ≡ Definitions.restored k mask self }
+    {
+        let given = if k.swapped { self.exchanged() } else { self };
+        given.signed(k, mask)
+    }
+
+    // The same with bearings in degrees.
+    fn with_bearings<F: FunctionSet>(self, set: &F, mask: u64) -> Inverse<Bearings>
+        ensures { result ≡ Definitions.with_bearings (F.funcs set.now) mask self }
+    {
+        Inverse {
+            a12: self.a12,
+            s12: self.s12,
+            directions: self.directions.bearings(set, mask),
+            m12: self.m12,
+            M12: self.M12,
+            M21: self.M21,
+            S12: self.S12,
+            evaluations: self.evaluations,
+        }
     }
 }
 
-// The wanted figures of a path.
-fn measure<F: FunctionSet>(
-    set: &F,
-    shape: &Ellipsoid,
-    e: Ends,
-    d: Difference,
-    mask: u64,
-    p: Path,
-) -> Solved
-    ensures { result ≡ Definitions.measured (F.funcs set.now) shape.now e d mask p }
-{
-    Solved {
-        s12: length_if(mask, DISTANCE, p.s12x),
-        m12: length_if(mask, REDUCEDLENGTH, p.m12x),
-        a12: p.a12,
-        M12: p.M12,
-        M21: p.M21,
-        S12: area_if(set, shape, e, d, mask, p),
-        alp1: p.alp1,
-        alp2: p.alp2,
-        evaluations: p.evaluations,
+// An edge has the length and the area of a geodesic.
+impl From<Inverse<Directions>> for Edge {
+    ghost from_gives = { λ r e. e ≡ Definitions.edge_from r };
+
+    fn from(r: Inverse<Directions>) -> Edge {
+        Edge {
+            s12: r.s12,
+            S12: r.S12,
+            evaluations: r.evaluations,
+        }
     }
 }
 
 // The inverse problem in canonical form.
-pub fn solve<F: FunctionSet>(set: &F, shape: &Ellipsoid, mask: u64, c: Canonical) -> Solved
-    ensures { result ≡ Definitions.solved (F.funcs set.now) shape.now mask c }
+#[tactic(auto, unfolding(crate::specs::Inverse::solved))]
+pub fn solve<F: FunctionSet>(
+    set: &F,
+    shape: &Ellipsoid,
+    mask: u64,
+    form: Canonical,
+) -> Inverse<Directions>
+    ensures { result ≡ Definitions.solved (F.funcs set.now) shape.now mask form }
 {
-    let e = ends_of(set, shape, c.lat1, c.lat2);
-    let d = difference_of(set, c.lon12, c.lon12s);
-    measure(set, shape, e, d, mask, path_of(set, shape, c, e, d, mask))
+    let problem = Problem {
+        set,
+        shape,
+        ends: shape.ends_of(set, form.lat1, form.lat2),
+        difference: Difference::new(set, form.lon12, form.lon12s),
+    };
+    let task = Task {
+        problem,
+        form,
+        mask,
+    };
+    task.measure(&task.path())
 }
 
-// The area with its sign, a zero as +0.
-fn signed_area(k: Signs, mask: u64, S12: f64) -> f64
-    ensures { result ≡ Definitions.signed_area k mask S12 }
-{
-    if wanted(mask, AREA) {
-        S12 * k.area + 0.0
-    } else {
-        f64::NAN
-    }
-}
-
-// The figures of the given points, where the first of them stayed the first.
-fn in_order(k: Signs, mask: u64, s: Solved) -> Inverse
-    ensures { result ≡ Definitions.in_order k mask s }
-{
-    Inverse {
-        a12: s.a12,
-        s12: s.s12,
-        salp1: s.alp1.salp * k.salp,
-        calp1: s.alp1.calp * k.calp,
-        salp2: s.alp2.salp * k.salp,
-        calp2: s.alp2.calp * k.calp,
-        m12: s.m12,
-        M12: s.M12,
-        M21: s.M21,
-        S12: signed_area(k, mask, s.S12),
-        evaluations: s.evaluations,
-    }
-}
-
-// The figures of the given points, where they were exchanged.
-fn exchange_back(k: Signs, mask: u64, s: Solved) -> Inverse
-    ensures { result ≡ Definitions.exchanged_back k mask s }
-{
-    Inverse {
-        a12: s.a12,
-        s12: s.s12,
-        salp1: s.alp2.salp * k.salp,
-        calp1: s.alp2.calp * k.calp,
-        salp2: s.alp1.salp * k.salp,
-        calp2: s.alp1.calp * k.calp,
-        m12: s.m12,
-        M12: s.M21,
-        M21: s.M12,
-        S12: signed_area(k, mask, s.S12),
-        evaluations: s.evaluations,
-    }
-}
-
-// From the canonical form back to the given points.
-fn restore(k: Signs, mask: u64, s: Solved) -> Inverse
-    ensures { result ≡ Definitions.restored k mask s }
-{
-    if k.swapped {
-        exchange_back(k, mask, s)
-    } else {
-        in_order(k, mask, s)
-    }
-}
-
-// The inverse problem for any four floats.
+// The inverse problem for any four floats. The argument list is the crate's.
+#[tactic(auto, unfolding(crate::specs::Inverse::inverse))]
 pub fn _gen_inverse<F: FunctionSet>(
     set: &F,
     shape: &Ellipsoid,
@@ -189,25 +178,15 @@ pub fn _gen_inverse<F: FunctionSet>(
     lat2: f64,
     lon2: f64,
     mask: u64,
-) -> Inverse
+) -> Inverse<Directions>
     ensures { result ≡ Definitions.inverse (F.funcs set.now) shape.now mask lat1 lon1 lat2 lon2 }
 {
-    let (form, signs) = canonical_form(lat1, lon1, lat2, lon2);
-    restore(signs, mask, solve(set, shape, mask, form))
+    let (form, signs) = Canonical::between(lat1, lon1, lat2, lon2);
+    solve(set, shape, mask, form).restored(signs, mask)
 }
 
-// A bearing where bearings are wanted, else NaN.
-fn bearing_if<F: FunctionSet>(set: &F, mask: u64, salp: f64, calp: f64) -> f64
-    ensures { result ≡ Definitions.bearing_if (F.funcs set.now) mask salp calp }
-{
-    if wanted(mask, AZIMUTH) {
-        atan2d(set, salp, calp)
-    } else {
-        f64::NAN
-    }
-}
-
-// The inverse problem with bearings in degrees.
+// The inverse problem with bearings in degrees. The argument list is the crate's.
+#[tactic(auto, unfolding(crate::specs::Inverse::inverse_azi))]
 pub fn _gen_inverse_azi<F: FunctionSet>(
     set: &F,
     shape: &Ellipsoid,
@@ -216,19 +195,8 @@ pub fn _gen_inverse_azi<F: FunctionSet>(
     lat2: f64,
     lon2: f64,
     mask: u64,
-) -> InverseAzi
+) -> Inverse<Bearings>
     ensures { result ≡ Definitions.inverse_azi (F.funcs set.now) shape.now mask lat1 lon1 lat2 lon2 }
 {
-    let r = _gen_inverse(set, shape, lat1, lon1, lat2, lon2, mask);
-    InverseAzi {
-        a12: r.a12,
-        s12: r.s12,
-        azi1: bearing_if(set, mask, r.salp1, r.calp1),
-        azi2: bearing_if(set, mask, r.salp2, r.calp2),
-        m12: r.m12,
-        M12: r.M12,
-        M21: r.M21,
-        S12: r.S12,
-        evaluations: r.evaluations,
-    }
+    _gen_inverse(set, shape, lat1, lon1, lat2, lon2, mask).with_bearings(set, mask)
 }

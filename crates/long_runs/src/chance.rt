@@ -1,8 +1,9 @@
-// Calls drawn by chance from a fixed seed.
+// Calls drawn by chance from a fixed seed. The generator is of its own, and not `rand_pcg`'s, so that
+// the counts on stdout stay.
 use history::Call;
 
 // A linear congruential generator.
-#[derive(Clone, Copy)]
+#[derive(Drop, PartialEq, Eq, Hash, Debug)]
 pub struct Chance {
     state: u64,
 }
@@ -23,16 +24,25 @@ impl Chance {
 
     // A number below `bound`, or 0 where there is none.
     pub fn below(&mut self, bound: u32) -> u32 {
-        let number = self.next();
-        if bound == 0 { 0 } else { number % bound }
+        self.next().checked_rem(bound).unwrap_or(0)
+    }
+
+    // A number from `least` to `least` and `span` more.
+    fn within(&mut self, least: f64, span: f64) -> f64 {
+        f64::from(self.next()) / 4294967296.0 * span + least
+    }
+
+    // One of `count` numbers, ten apart from `least` on.
+    fn tens(&mut self, least: f64, count: u32) -> f64 {
+        f64::from(self.below(count)) * 10.0 + least
     }
 
     // A latitude from -100 to 100, in whole tens of degrees or not.
     fn latitude(&mut self) -> f64 {
-        if self.below(3) == 0 {
-            return f64::from(self.below(21)) * 10.0 - 100.0;
+        match self.below(3) {
+            0 => self.tens(-100.0, 21),
+            _ => self.within(-100.0, 200.0),
         }
-        f64::from(self.next()) / 4294967296.0 * 200.0 - 100.0
     }
 
     // A longitude from -400 to 400, in whole tens of degrees or not; now and then no number.
@@ -40,8 +50,8 @@ impl Chance {
         match self.below(20) {
             0 => f64::NAN,
             1 => f64::INFINITY,
-            2..8 => f64::from(self.below(81)) * 10.0 - 400.0,
-            _ => f64::from(self.next()) / 4294967296.0 * 800.0 - 400.0,
+            2..8 => self.tens(-400.0, 81),
+            _ => self.within(-400.0, 800.0),
         }
     }
 

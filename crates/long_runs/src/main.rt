@@ -2,33 +2,25 @@
 // is compared with the book kept as plain lists, and each measure with a new polygon.
 #![tactic(auto)]
 
+ghost use Rattle.std.specs.Prelude.{◌≡◌, ◌↔◌, IsTrue, Some};
+ghost use Rattle.long_runs.specs.Tallies.{tally_of, tally_text, Agrees};
+
 mod chance;
 
 use anyhow::anyhow;
 use area::Winding;
 use chance::Chance;
-use functions::SeriesSet;
-use geodesic::Geodesic;
-use history::{Call, Sizes};
-use notebook::{Ground, Notebook, same_figures};
-use outline::{Answer, EditRecord, Outline, Station};
-use polygon::{Figures, Point};
+use earth::Ground;
+use history::{Answer, Call, Done, Sizes};
+use notebook::{Desk, same_figures};
+use polygon::Figures;
 use std::alloc::AllocError;
-use surface::{Plate, Refusal, Surface};
-
-// An outline over rows of some lengths, with one slot more in store, and the notebook beside it.
-#[derive(Drop)]
-struct Desk<S> {
-    outline: Outline<S>,
-    lengths: Sizes,
-    stations: Vec<Station>,
-    edits: Vec<EditRecord>,
-    notebook: Notebook,
-    ground: Ground,
-}
+use std::fmt;
+use std::ops::AddAssign;
+use surface::{Plate, Refusal};
 
 // How many calls were made, how many were refused, how many measured, and how many answers differ.
-#[derive(Clone, Copy)]
+#[derive(Clone, Copy, PartialEq, Eq, Hash, Debug, Default)]
 struct Tally {
     calls: u32,
     refused: u32,
@@ -37,29 +29,55 @@ struct Tally {
 }
 
 impl Tally {
-    // One call more.
-    fn counted(self, answer: Answer, agrees: bool) -> Tally {
-        let refused = matches!(answer, Answer::Refused(_)) as u32;
-        let measured = matches!(answer, Answer::Measured(_)) as u32;
-        let differs = !agrees as u32;
+    // Of one call.
+    fn of(answer: Answer, agrees: bool) -> Tally
+        ensures { result ≡ tally_of answer agrees }
+    {
         Tally {
-            calls: self.calls.saturating_add(1),
-            refused: self.refused.saturating_add(refused),
-            measures: self.measures.saturating_add(measured),
-            differ: self.differ.saturating_add(differs),
+            calls: 1,
+            refused: u32::from(answer.is_err()),
+            measures: u32::from(matches!(answer, Ok(Done::Measured(_)))),
+            differ: u32::from(!agrees),
         }
     }
 }
 
+impl AddAssign for Tally {
+    fn add_assign(&mut self, other: Tally) {
+        self.calls = self.calls.saturating_add(other.calls);
+        self.refused = self.refused.saturating_add(other.refused);
+        self.measures = self.measures.saturating_add(other.measures);
+        self.differ = self.differ.saturating_add(other.differ);
+    }
+}
+
+impl fmt::Display for Tally {
+    ghost output = { λ t. Some (tally_text t) };
+
+    fn fmt<W: fmt::Write>(&self, f: &mut fmt::Formatter<W>) -> fmt::Result {
+        let Tally {
+            calls,
+            refused,
+            measures,
+            differ,
+        } = *self;
+        write!(
+            f,
+            "{calls} calls, {refused} refused, {measures} measures, {differ} differ"
+        )
+    }
+}
+
 // Whether an answer is the book's, and its figures those of a new polygon.
-fn agrees(answer: Answer, refusal: Option<Refusal>, anew: Result<Figures, Refusal>) -> bool {
+fn agrees(answer: Answer, refusal: Option<Refusal>, anew: Option<Figures>) -> bool
+    ensures { IsTrue result ↔ Agrees answer refusal anew }
+{
     match (answer, refusal) {
-        (Answer::Refused(given), Some(due)) => given.number() == due.number(),
-        (Answer::Edited(_), None) => true,
-        (Answer::Measured(measurement), None) => match anew {
-            Ok(figures) => same_figures(measurement.figures, figures),
-            Err(_) => false,
-        },
+        (Err(given), Some(due)) => given == due,
+        (Ok(Done::Edited(_)), None) => true,
+        (Ok(Done::Measured(measurement)), None) => {
+            anew.is_some_and(|figures| same_figures(measurement.figures, figures))
+        }
         _ => false,
     }
 }
@@ -67,139 +85,57 @@ fn agrees(answer: Answer, refusal: Option<Refusal>, anew: Result<Figures, Refusa
 // The lengths of the rows to hand in: mostly those at opening, now and then one slot more or less.
 fn found_lengths(chance: &mut Chance, lengths: Sizes) -> Sizes {
     let Sizes { stations, edits } = lengths;
-    match chance.below(40) {
-        0 => Sizes {
-            stations: stations.saturating_add(1),
-            edits,
-        },
-        1 => Sizes {
-            stations: stations.saturating_sub(1),
-            edits,
-        },
-        2 => Sizes {
-            stations,
-            edits: edits.saturating_add(1),
-        },
-        3 => Sizes {
-            stations,
-            edits: edits.saturating_sub(1),
-        },
-        _ => lengths,
-    }
-}
-
-// Makes a call on the fronts of the rows.
-fn make<S: Surface>(desk: &mut Desk<S>, found: Sizes, call: Call) -> Answer {
-    let stations = desk.stations.as_mut_slice();
-    let edits = desk.edits.as_mut_slice();
-    let station_end = stations.len().min(found.stations as usize);
-    let edit_end = edits.len().min(found.edits as usize);
-    desk.outline
-        .make(&mut stations[..station_end], &mut edits[..edit_end], call)
-}
-
-// Makes one call by chance, and answers the tally with it.
-fn turn<S: Surface>(
-    desk: &mut Desk<S>,
-    chance: &mut Chance,
-    tally: Tally,
-) -> Result<Tally, AllocError> {
-    let found = found_lengths(chance, desk.lengths);
-    let count = desk.notebook.standing().len().min(65535) as u32;
-    let call = chance.call(count);
-    let answer = make(desk, found, call);
-    let refusal = desk.notebook.follow(desk.lengths, found, call)?;
-    let anew = match call {
-        Call::Measure { sign } => desk
-            .ground
-            .figures(Winding::Clockwise, sign, desk.notebook.standing()),
-        _ => Err(Refusal::Shape),
+    let (stations, edits) = match chance.below(40) {
+        0 => (stations.saturating_add(1), edits),
+        1 => (stations.saturating_sub(1), edits),
+        2 => (stations, edits.saturating_add(1)),
+        3 => (stations, edits.saturating_sub(1)),
+        _ => (stations, edits),
     };
-    Ok(tally.counted(answer, agrees(answer, refusal, anew)))
+    Sizes { stations, edits }
+}
+
+// Makes one call by chance, and tallies it.
+fn turn(desk: &mut Desk, chance: &mut Chance) -> Result<Tally, AllocError> {
+    let found = found_lengths(chance, desk.lengths());
+    let count = u32::try_from(desk.standing().len()).unwrap_or(u32::MAX);
+    let call = chance.call(count);
+    let (answer, refusal) = desk.make(found, call)?;
+    let anew = match call {
+        Call::Measure { sign } => desk.anew(sign).ok(),
+        _ => None,
+    };
+    Ok(Tally::of(answer, agrees(answer, refusal, anew)))
 }
 
 // Makes calls on a new outline over rows of these lengths.
-fn run_on<S: Surface + Drop>(
-    rt: &HostRuntime,
-    surface: S,
-    ground: Ground,
-    lengths: Sizes,
-    calls: u32,
-    tally: Tally,
-) -> anyhow::Result<Tally> {
-    let heap = rt.alloc();
-    let Sizes { stations, edits } = lengths;
-    let Ok(outline) = Outline::open(
-        surface,
-        Winding::Clockwise,
-        stations as usize,
-        edits as usize,
-    ) else {
-        return Err(anyhow!("the rows are refused"));
-    };
-    let nowhere = Station::first(Point { lat: 0.0, lon: 0.0 });
-    let station_row = vec![in heap; nowhere; stations as usize + 1]?;
-    let edit_row = vec![in heap; EditRecord::added(0); edits as usize + 1]?;
-    let mut desk = Desk {
-        outline,
-        lengths,
-        stations: station_row,
-        edits: edit_row,
-        notebook: Notebook::new(heap),
-        ground,
-    };
+fn run_on(rt: &HostRuntime, ground: Ground, lengths: Sizes, calls: u32) -> anyhow::Result<Tally> {
+    let mut desk = Desk::open(rt.alloc(), ground, Winding::Clockwise, lengths)?;
     let mut chance = Chance::seeded(20130101);
-    let mut total = tally;
+    let mut total = Tally::default();
     for _ in 0..calls {
-        total = turn(&mut desk, &mut chance, total)?;
+        total += turn(&mut desk, &mut chance)?;
     }
     Ok(total)
 }
 
-// Calls on one ground, over rows of these lengths.
-fn run_ground(
-    rt: &HostRuntime,
-    ground: Ground,
-    lengths: Sizes,
-    calls: u32,
-    tally: Tally,
-) -> anyhow::Result<Tally> {
-    match ground {
-        Ground::Sheet(scale) => match Plate::new(scale) {
-            Ok(plate) => run_on(rt, plate, ground, lengths, calls, tally),
-            Err(_) => Err(anyhow!("the plate is refused")),
-        },
-        Ground::Wgs84 => match Geodesic::wgs84(SeriesSet) {
-            Ok(ellipsoid) => run_on(rt, ellipsoid, ground, lengths, calls, tally),
-            Err(_) => Err(anyhow!("the ellipsoid is refused")),
-        },
-    }
-}
-
 // Runs on one ground, over rows short and long, and prints the counts.
 fn report(rt: &HostRuntime, name: &str, ground: Ground, calls: u32) -> anyhow::Result<()> {
-    let mut tally = Tally {
-        calls: 0,
-        refused: 0,
-        measures: 0,
-        differ: 0,
-    };
+    let mut total = Tally::default();
     for (stations, edits) in [(12, 8), (1, 1), (5, 0), (0, 3), (40, 64)] {
-        tally = run_ground(rt, ground, Sizes { stations, edits }, calls, tally)?;
+        total += run_on(rt, ground, Sizes { stations, edits }, calls)?;
     }
-    let Tally {
-        calls,
-        refused,
-        measures,
-        differ,
-    } = tally;
-    println!(rt; "{name} {calls} calls, {refused} refused, {measures} measures, {differ} differ")?;
+    println!(rt; "{name} {total}")?;
     Ok(())
 }
 
 fn run(rt: &HostRuntime) -> anyhow::Result<()> {
-    report(rt, "plate", Ground::Sheet(2.5), 2000)?;
-    report(rt, "WGS84", Ground::Wgs84, 100)
+    // No `?`: a refusal prints its number alone.
+    let Ok(plate) = Plate::new(2.5) else {
+        return Err(anyhow!("the plate is refused"));
+    };
+    report(rt, "plate", Ground::Sheet(plate), 2000)?;
+    report(rt, "WGS84", Ground::Earth, 100)
 }
 
 fn main(rt: HostRuntime) -> anyhow::Result<()> {

@@ -1,3 +1,1 @@
-mod Lists
-mod Past
 mod Feeding

@@ -1,13 +1,16 @@
 // A notebook: the points that stand, and the lists that stood before.
-ghost use Rattle.std.specs.Prelude.{◌≡◌, ◌<◌, true, [], ◌∷◌, ◌++◌, length, IfOk, OnOk, slice_set};
-ghost use Rattle.std.specs.List.{remove};
-ghost use Rattle.history.specs.Book.{empty_book, book_refusal, book_after, changed, turned_to, turned_back, take_back_refusal};
-ghost use Rattle.notebook.specs.Pages.{book_of, fitting};
+ghost use Rattle.std.specs.Prelude.{◌≡◌, true, IfOk, OnOk, Vec};
+ghost use Rattle.std.specs.Fn.{FnOnceTakesAtMut};
+ghost use Rattle.std.specs.declared.alloc.Global.{Global};
+ghost use Rattle.polygon.specs.declared.Point.{Point};
+ghost use Rattle.history.specs.Book.{empty_book, book_refusal, book_after, changed, turned_back};
+ghost use Rattle.notebook.specs.Pages.{book_of, fitting, Turns};
 
 use geomath::accepted;
 use history::{Call, Sizes};
 use polygon::Point;
 use std::alloc::{AllocError, Global};
+use std::collections::VecDeque;
 use std::mem::replace;
 use surface::Refusal;
 
@@ -16,7 +19,7 @@ use surface::Refusal;
 pub struct Notebook {
     heap: Global,
     standing: Vec<Point>,
-    past: Vec<Vec<Point>>,
+    past: VecDeque<Vec<Point>>,
 }
 
 impl Notebook {
@@ -27,7 +30,7 @@ impl Notebook {
         Notebook {
             heap,
             standing: Vec::new(heap),
-            past: Vec::new(heap),
+            past: VecDeque::new(heap),
         }
     }
 
@@ -35,25 +38,15 @@ impl Notebook {
     pub fn standing(&self) -> &[Point]
         ensures { result.now ≡ (book_of self.now).standing }
     {
-        self.standing.as_slice()
+        &self.standing
     }
 
-    // Taking back is refused where there is no past.
-    fn take_back_refusal(&self) -> Option<Refusal>
-        ensures { result ≡ take_back_refusal (book_of self.now).past }
-    {
-        if self.past.is_empty() {
-            return Some(Refusal::NothingToTakeBack);
-        }
-        None
-    }
-
-    // Why a call is refused, if it is, where the rows were opened with some lengths and are found
-    // with others.
+    // Why a call is refused, where the rows were opened with some lengths and are found with others.
+    // None where it is not refused, as `book_refusal` says.
     pub fn refusal(&self, lengths: Sizes, found: Sizes, call: Call) -> Option<Refusal>
         ensures { result ≡ book_refusal lengths found (book_of self.now) call }
     {
-        if found.stations != lengths.stations || found.edits != lengths.edits {
+        if found != lengths {
             return Some(Refusal::RowLength);
         }
         let count = self.standing.len();
@@ -63,18 +56,25 @@ impl Notebook {
             Call::Move { place, .. } if place >= count => Some(Refusal::Place),
             Call::Move { lat, lon, .. } if !accepted(lat, lon) => Some(Refusal::Point),
             Call::Drop { place } if place >= count => Some(Refusal::Place),
-            Call::TakeBack => self.take_back_refusal(),
+            Call::TakeBack if self.past.is_empty() => Some(Refusal::NothingToTakeBack),
             _ => None,
         }
     }
 
-    // Another list stands, and the one that stood goes in front of the past, of which the newest
-    // `most` remain.
-    fn turn_to(&mut self, most: usize, standing: Vec<Point>) -> Result<(), AllocError>
-        ensures { OnOk result (book_of self.new ≡ turned_to most (book_of self.old) standing.items) }
+    // The standing points after a change stand, and those that stood go in front of the past, of which
+    // the newest `most` remain.
+    fn turn<F: FnOnce(&mut Vec<Point>) -> Result<(), AllocError>>(
+        &mut self,
+        most: usize,
+        change: F,
+    ) -> Result<(), AllocError>
+        requires { (points : Vec Point Global) → points.items ≡ (book_of self.old).standing → FnOnceTakesAtMut F.FnOnce change points }
+        ensures { OnOk result (Turns F.FnOnce change most (book_of self.old) (book_of self.new)) }
     {
-        let before = replace(&mut self.standing, standing);
-        self.past.insert(0, before)?;
+        let mut points = Vec::from_slice(self.heap, &self.standing)?;
+        change(&mut points)?;
+        let before = replace(&mut self.standing, points);
+        self.past.push_front(before)?;
         self.past.truncate(most);
         Ok(())
     }
@@ -83,38 +83,9 @@ impl Notebook {
     fn turn_back(&mut self)
         ensures { book_of self.new ≡ turned_back (book_of self.old) (book_of self.old).past }
     {
-        if !self.past.is_empty() {
-            self.standing = self.past.remove(0);
+        if let Some(before) = self.past.pop_front() {
+            self.standing = before;
         }
-    }
-
-    // The standing points and one more.
-    fn with_added(&self, point: Point) -> Result<Vec<Point>, AllocError>
-        ensures { IfOk result (λ v. v.items ≡ (book_of self.now).standing ++ (point ∷ [])) }
-    {
-        let mut points = Vec::from_slice(self.heap, self.standing.as_slice())?;
-        points.push(point)?;
-        Ok(points)
-    }
-
-    // The standing points with another at `place`.
-    fn with_moved(&self, place: usize, point: Point) -> Result<Vec<Point>, AllocError>
-        requires { place < length (book_of self.now).standing }
-        ensures { IfOk result (λ v. v.items ≡ slice_set (book_of self.now).standing place point) }
-    {
-        let mut points = Vec::from_slice(self.heap, self.standing.as_slice())?;
-        points[place] = point;
-        Ok(points)
-    }
-
-    // The standing points without the one at `place`.
-    fn with_dropped(&self, place: usize) -> Result<Vec<Point>, AllocError>
-        requires { place < length (book_of self.now).standing }
-        ensures { IfOk result (λ v. v.items ≡ remove (book_of self.now).standing place) }
-    {
-        let mut points = Vec::from_slice(self.heap, self.standing.as_slice())?;
-        points.remove(place);
-        Ok(points)
     }
 
     // Writes down a call that is not refused.
@@ -123,18 +94,18 @@ impl Notebook {
         ensures { OnOk result (book_of self.new ≡ changed most (book_of self.old) call) }
     {
         match call {
-            Call::Add { lat, lon } => {
-                let points = self.with_added(Point { lat, lon })?;
-                self.turn_to(most, points)
-            }
-            Call::Move { place, lat, lon } => {
-                let points = self.with_moved(place, Point { lat, lon })?;
-                self.turn_to(most, points)
-            }
-            Call::Drop { place } => {
-                let points = self.with_dropped(place)?;
-                self.turn_to(most, points)
-            }
+            Call::Add { lat, lon } => self.turn(
+                most,
+                |points| Ok(points.push(Point { lat, lon })?),
+            ),
+            Call::Move { place, lat, lon } => self.turn(most, |points| {
+                points[place] = Point { lat, lon };
+                Ok(())
+            }),
+            Call::Drop { place } => self.turn(most, |points| {
+                points.remove(place);
+                Ok(())
+            }),
             Call::TakeBack => {
                 self.turn_back();
                 Ok(())
@@ -143,7 +114,8 @@ impl Notebook {
         }
     }
 
-    // Follows a call: tells why it is refused, or writes it down.
+    // Follows a call: tells why it is refused, or writes it down and tells None, as `book_refusal`
+    // does.
     pub fn follow(
         &mut self,
         lengths: Sizes,

@@ -1,4 +1,5 @@
 mod Summing
+mod Leaving
 pub mod Replaying
 pub mod WholeRule
 mod Examples

@@ -1,29 +1,30 @@
 // The calls on an outline. A refused call leaves the outline and both rows as they were.
-ghost use Rattle.std.specs.Prelude.{◌≡◌, ◌*◌, ◌≤◌, true, length, IfOk};
+ghost use Rattle.std.specs.Prelude.{◌≡◌, ◌*◌, ◌≤◌, true, false, length, IfOk, MatchResult};
 ghost use Rattle.std.specs.Result.{result_err};
 ghost use Rattle.stations.specs.Costs.{neighbours, bridged, add_edges, take_back_edges, Costs};
-ghost use Rattle.stations.specs.Records.{fits_outline, noted, noted_count};
-ghost use Rattle.history.specs.Calls.{open_refusal, opened, same_lengths, with_counts, newest_of, add_of, move_of, drop_of, take_back_of, undrawn, undrawn_count, measured, measure_of};
+ghost use Rattle.stations.specs.Stations.{drawing};
+ghost use Rattle.surface.specs.declared.refusals.Refusal.TheVariants.{RowLength};
+ghost use Rattle.stations.specs.Records.{code_of, fits_outline, noted, noted_count};
+ghost use Rattle.history.specs.Calls.{open_refusal, opened, same_lengths, with_counts, left, newest_of, add_of, move_of, drop_of, take_back_of, undrawn, undrawn_count, measured, measure_of};
 ghost use Rattle.outline.specs.Examples.{AllExamples};
 ghost use Rattle.outline.specs.Resuming.{resume_refusal};
 ghost use Rattle.outline.specs.WholeRule.{WholeRule};
 
 use crate::outlines::Outline;
-use crate::sums::{first_point, last_point, sums_over};
-use area::{Winding, reduce_area};
+use crate::sums::traverse_over;
+use area::Winding;
 use geomath::accepted;
 use history::{Frame, Measurement, Sizes};
-use polygon::{Figures, Point, transit};
-use stations::{
-    ADD, Cost, EditRecord, MOVE, Station, note, place_point, remove_point, shift_point,
-};
+use polygon::Point;
+use stations::{Cost, EditKind, EditRecord, Station, note, place_point, remove_point, shift_point};
 use surface::{Refusal, Surface};
 
 // The most slots that a row may have.
-const MOST_STATIONS: usize = 4096;
+const MOST_STATIONS: u16 = 4096;
 
-const MOST_EDITS: usize = 1024;
+const MOST_EDITS: u16 = 1024;
 
+// Both rows are parameters of each call, as C lends them.
 impl<S: Surface> Outline<S> {
     // An outline with no points, over rows of these lengths. Refused where a row is longer than it
     // may be.
@@ -40,25 +41,15 @@ impl<S: Surface> Outline<S> {
         ensures frame { IfOk result (λ o. o.frame ≡ opened winding stations edits) }
         ensures examples { AllExamples }
     {
-        if stations > MOST_STATIONS || edits > MOST_EDITS {
+        let (Ok(stations), Ok(edits)) = (u16::try_from(stations), u16::try_from(edits)) else {
             return Err(Refusal::RowLength);
-        }
-        let lengths = Sizes {
-            stations: stations as u16,
-            edits: edits as u16,
         };
-        let counts = Sizes {
-            stations: 0,
-            edits: 0,
+        let frame = Frame {
+            winding,
+            lengths: Sizes { stations, edits },
+            counts: Sizes::default(),
         };
-        Ok(Outline {
-            surface,
-            frame: Frame {
-                winding,
-                lengths,
-                counts,
-            },
-        })
+        Outline::resume(surface, frame)
     }
 
     // Takes an outline up again from what it keeps. Refused where a row is longer than it may be, or
@@ -75,7 +66,7 @@ impl<S: Surface> Outline<S> {
             counts,
             ..
         } = frame;
-        if lengths.stations as usize > MOST_STATIONS || lengths.edits as usize > MOST_EDITS {
+        if lengths.stations > MOST_STATIONS || lengths.edits > MOST_EDITS {
             return Err(Refusal::RowLength);
         }
         if counts.stations > lengths.stations || counts.edits > lengths.edits {
@@ -91,13 +82,16 @@ impl<S: Surface> Outline<S> {
         self.frame
     }
 
-    // Whether the rows are as long as at opening.
-    fn rows_fit(&self, stations: usize, edits: usize) -> bool
-        ensures value { result ≡ same_lengths (record { stations = stations; edits = edits }) self.now.frame.lengths }
-        ensures same { result ≡ true → (stations ≡ self.now.frame.lengths.stations) × (edits ≡ self.now.frame.lengths.edits) }
+    // Refused where the rows are not as long as at opening.
+    fn rows_fit(&self, stations: usize, edits: usize) -> Result<(), Refusal>
+        ensures { MatchResult result (λ u. (same_lengths (record { stations = stations; edits = edits }) self.now.frame.lengths ≡ true) × (stations ≡ self.now.frame.lengths.stations) × (edits ≡ self.now.frame.lengths.edits)) (λ e. (same_lengths (record { stations = stations; edits = edits }) self.now.frame.lengths ≡ false) × (e ≡ RowLength)) }
     {
         let lengths = self.frame.lengths;
-        stations == lengths.stations as usize && edits == lengths.edits as usize
+        if stations == lengths.stations as usize && edits == lengths.edits as usize {
+            Ok(())
+        } else {
+            Err(Refusal::RowLength)
+        }
     }
 
     // Notes an edit, after which `count` stations are held.
@@ -123,16 +117,11 @@ impl<S: Surface> Outline<S> {
         lat: f64,
         lon: f64,
     ) -> Result<Cost, Refusal>
-        ensures answer { result ≡ (add_of (S.edges self.old.surface) self.old.frame stations.old edits.old lat lon).answer }
-        ensures frame { self.new.frame ≡ (add_of (S.edges self.old.surface) self.old.frame stations.old edits.old lat lon).frame }
-        ensures stations { stations.new ≡ (add_of (S.edges self.old.surface) self.old.frame stations.old edits.old lat lon).stations }
-        ensures edits { edits.new ≡ (add_of (S.edges self.old.surface) self.old.frame stations.old edits.old lat lon).edits }
+        ensures left { left result self.new.frame stations.new edits.new ≡ add_of (S.edges self.old.surface) self.old.frame stations.old edits.old lat lon }
         ensures surface { self.new.surface ≡ self.old.surface }
         ensures cost { Costs result (add_edges self.old.frame.counts.stations) }
     {
-        if !self.rows_fit(stations.len(), edits.len()) {
-            return Err(Refusal::RowLength);
-        }
+        self.rows_fit(stations.len(), edits.len())?;
         if !accepted(lat, lon) {
             return Err(Refusal::Point);
         }
@@ -155,16 +144,11 @@ impl<S: Surface> Outline<S> {
         lat: f64,
         lon: f64,
     ) -> Result<Cost, Refusal>
-        ensures answer { result ≡ (move_of (S.edges self.old.surface) self.old.frame stations.old edits.old place lat lon).answer }
-        ensures frame { self.new.frame ≡ (move_of (S.edges self.old.surface) self.old.frame stations.old edits.old place lat lon).frame }
-        ensures stations { stations.new ≡ (move_of (S.edges self.old.surface) self.old.frame stations.old edits.old place lat lon).stations }
-        ensures edits { edits.new ≡ (move_of (S.edges self.old.surface) self.old.frame stations.old edits.old place lat lon).edits }
+        ensures left { left result self.new.frame stations.new edits.new ≡ move_of (S.edges self.old.surface) self.old.frame stations.old edits.old place lat lon }
         ensures surface { self.new.surface ≡ self.old.surface }
         ensures cost { Costs result (neighbours self.old.frame.counts.stations place) }
     {
-        if !self.rows_fit(stations.len(), edits.len()) {
-            return Err(Refusal::RowLength);
-        }
+        self.rows_fit(stations.len(), edits.len())?;
         let count = self.frame.counts.stations;
         if place >= count as usize {
             return Err(Refusal::Place);
@@ -186,16 +170,11 @@ impl<S: Surface> Outline<S> {
         edits: &mut [EditRecord],
         place: usize,
     ) -> Result<Cost, Refusal>
-        ensures answer { result ≡ (drop_of (S.edges self.old.surface) self.old.frame stations.old edits.old place).answer }
-        ensures frame { self.new.frame ≡ (drop_of (S.edges self.old.surface) self.old.frame stations.old edits.old place).frame }
-        ensures stations { stations.new ≡ (drop_of (S.edges self.old.surface) self.old.frame stations.old edits.old place).stations }
-        ensures edits { edits.new ≡ (drop_of (S.edges self.old.surface) self.old.frame stations.old edits.old place).edits }
+        ensures left { left result self.new.frame stations.new edits.new ≡ drop_of (S.edges self.old.surface) self.old.frame stations.old edits.old place }
         ensures surface { self.new.surface ≡ self.old.surface }
         ensures cost { Costs result (bridged self.old.frame.counts.stations place) }
     {
-        if !self.rows_fit(stations.len(), edits.len()) {
-            return Err(Refusal::RowLength);
-        }
+        self.rows_fit(stations.len(), edits.len())?;
         let count = self.frame.counts.stations;
         if place >= count as usize {
             return Err(Refusal::Place);
@@ -206,36 +185,26 @@ impl<S: Surface> Outline<S> {
         Ok(cost)
     }
 
-    // Draws the stations without an edit that fits, and answers the cost and how many there are.
-    fn undraw(&self, stations: &mut [Station], edit: EditRecord) -> (Cost, u16)
+    // Draws the stations without an edit of this kind that fits, and answers the cost and how many there are.
+    fn undraw(&self, stations: &mut [Station], kind: EditKind, edit: EditRecord) -> (Cost, u16)
+        requires kind { code_of kind ≡ edit.kind }
         requires fits { fits_outline self.now.frame.counts.stations (length stations.old) edit ≡ true }
         requires rows { length stations.old ≡ self.now.frame.lengths.stations }
-        ensures stations { stations.new ≡ (undrawn (S.edges self.now.surface) stations.old self.now.frame.counts.stations edit).stations }
-        ensures cost { result.0 ≡ (undrawn (S.edges self.now.surface) stations.old self.now.frame.counts.stations edit).cost }
+        ensures drawing { drawing stations.new result.0 ≡ undrawn (S.edges self.now.surface) stations.old self.now.frame.counts.stations edit }
         ensures count { result.1 ≡ undrawn_count self.now.frame.counts.stations edit }
         ensures held { result.1 ≤ self.now.frame.lengths.stations }
         ensures few { result.0.evaluations ≤ 83 * result.0.edges }
     {
         let count = self.frame.counts.stations;
         let place = edit.place as usize;
-        let old = Point {
-            lat: edit.lat,
-            lon: edit.lon,
-        };
-        match edit.kind {
-            ADD => (
-                Cost {
-                    edges: 0,
-                    evaluations: 0,
-                },
-                count - 1,
-            ),
-            MOVE => (
-                shift_point(&self.surface, stations, count as usize, place, old),
+        match kind {
+            EditKind::Add => (Cost::FREE, count - 1),
+            EditKind::Move => (
+                shift_point(&self.surface, stations, count as usize, place, edit.old()),
                 count,
             ),
-            _ => (
-                place_point(&self.surface, stations, count as usize, place, old),
+            EditKind::Drop => (
+                place_point(&self.surface, stations, count as usize, place, edit.old()),
                 count + 1,
             ),
         }
@@ -247,25 +216,20 @@ impl<S: Surface> Outline<S> {
         stations: &mut [Station],
         edits: &[EditRecord],
     ) -> Result<Cost, Refusal>
-        ensures answer { result ≡ (take_back_of (S.edges self.old.surface) self.old.frame stations.old edits.now).answer }
-        ensures frame { self.new.frame ≡ (take_back_of (S.edges self.old.surface) self.old.frame stations.old edits.now).frame }
-        ensures stations { stations.new ≡ (take_back_of (S.edges self.old.surface) self.old.frame stations.old edits.now).stations }
-        ensures edits { edits.now ≡ (take_back_of (S.edges self.old.surface) self.old.frame stations.old edits.now).edits }
+        ensures left { left result self.new.frame stations.new edits.now ≡ take_back_of (S.edges self.old.surface) self.old.frame stations.old edits.now }
         ensures surface { self.new.surface ≡ self.old.surface }
         ensures cost { Costs result (take_back_edges self.old.frame.counts.stations (newest_of edits.now self.old.frame.counts.edits)) }
     {
-        if !self.rows_fit(stations.len(), edits.len()) {
-            return Err(Refusal::RowLength);
-        }
+        self.rows_fit(stations.len(), edits.len())?;
         let counts = self.frame.counts;
         if counts.edits == 0 {
             return Err(Refusal::NothingToTakeBack);
         }
         let edit = edits[counts.edits as usize - 1];
-        if !edit.fits(counts.stations as usize, stations.len()) {
+        let Some(kind) = edit.fits(counts.stations as usize, stations.len()) else {
             return Err(Refusal::UnfitRecord);
-        }
-        let (cost, held) = self.undraw(stations, edit);
+        };
+        let (cost, held) = self.undraw(stations, kind, edit);
         self.frame.counts = Sizes {
             stations: held,
             edits: counts.edits - 1,
@@ -284,9 +248,7 @@ impl<S: Surface> Outline<S> {
         ensures edges { IfOk result (λ m. (m.cost.edges ≡ 1) × (m.cost.evaluations ≤ 83)) }
         ensures rule { WholeRule }
     {
-        if !self.rows_fit(stations.len(), edits.len()) {
-            return Err(Refusal::RowLength);
-        }
+        self.rows_fit(stations.len(), edits.len())?;
         let count = self.frame.counts.stations as usize;
         Ok(self.closed(&stations[0..count], sign))
     }
@@ -296,27 +258,13 @@ impl<S: Surface> Outline<S> {
         requires { length row.now ≤ 65535 }
         ensures { result ≡ measured (S.edges self.now.surface) (S.whole self.now.surface) self.now.frame.winding sign row.now }
     {
-        let sums = sums_over(row);
-        let last = last_point(row);
-        let first = first_point(row);
-        let edge = self.surface.edge(last.lat, last.lon, first.lat, first.lon);
-        let crossings = sums.crossings + transit(last.lon, first.lon);
-        let area = reduce_area(
-            self.surface.area(),
-            sums.area + edge.S12,
-            crossings,
-            self.frame.winding,
-            sign,
-        );
+        let traverse = traverse_over(row);
+        let (figures, evaluations) = traverse.closed(&self.surface, self.frame.winding, sign);
         Measurement {
-            figures: Figures {
-                perimeter: sums.perimeter + edge.s12,
-                area,
-                count: row.len() as u32,
-            },
+            figures,
             cost: Cost {
                 edges: 1,
-                evaluations: edge.evaluations as u32,
+                evaluations: evaluations as u32,
             },
         }
     }

@@ -7,7 +7,7 @@ mod outlines;
 mod replays;
 mod sums;
 
-pub use history::{Answer, Call, Measurement};
+pub use history::{Answer, Call, Done, Measurement};
 pub use outlines::Outline;
 pub use replays::replay;
 pub use stations::{Cost, EditRecord, Station};

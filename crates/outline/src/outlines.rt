@@ -5,7 +5,7 @@ use history::Frame;
 
 // An outline on a surface: its winding, the lengths of its two rows, at most 4,096 and 1,024, and
 // how many stations and edit records they hold, which are no more than there are slots.
-#[derive(Drop)]
+#[derive(Drop, PartialEq, Debug)]
 pub struct Outline<S> {
     pub(crate) surface: S,
     pub(crate) frame: Frame,

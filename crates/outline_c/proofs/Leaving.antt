@@ -1,5 +1,5 @@
--- What a call on the outline that is taken up leaves is what the definition of the call from C says. Assumes nothing.
-use Rattle.std.proofs.Common.{◌≡◌, ℕ, ◌+◌, ◌-◌, Bool, true, false, cond, eqb, ltb, List, length, Some, None, Ok, Err, Result, refl, ap, ◌∙◌}
+-- An edit of the outline that is kept answers and leaves what the definition of the call from C says, and leaves everything where it is refused. Assumes nothing.
+use Rattle.std.proofs.Common.{◌≡◌, ℕ, ◌+◌, ◌-◌, Bool, true, false, cond, eqb, ltb, List, length, Some, None, Ok, Err, Option, Result, refl, ap, ◌∙◌}
 use lib.Ieee.{Float}
 use Rattle.geomath.specs.Angles.{accepts}
 use Rattle.surface.specs.declared.refusals.Refusal.{Refusal}
@@ -9,28 +9,28 @@ use Rattle.stations.specs.declared.Cost.{Cost}
 use Rattle.stations.specs.declared.Station.{Station}
 use Rattle.stations.specs.declared.records.EditRecord.{EditRecord}
 use Rattle.history.specs.declared.Frame.{Frame}
-use Rattle.history.specs.declared.Measurement.{Measurement}
 use Rattle.stations.specs.Stations.{Drawing, point_at, placed, moved, dropped}
 use Rattle.stations.specs.Records.{add_record, move_record, drop_record, fits_outline}
-use Rattle.history.specs.Calls.{After, lengths_of, same_lengths, refuse, edited, on_rows, newest_of, undrawn, taken_back, add_of, move_of, drop_of, take_back_of, measure_of}
+use Rattle.history.specs.Calls.{After, lengths_of, same_lengths, refuse, edited, on_rows, newest_of, undrawn, taken_back, add_of, move_of, drop_of, take_back_of}
+use Rattle.earth.specs.declared.grounds.Ground.{Ground}
+use Rattle.earth.specs.Grounds.{edges_on}
 use Rattle.outline_c.specs.declared.faults.Fault.{Fault}
-use Rattle.outline_c.specs.declared.grounds.Ground.{Ground}
 use Rattle.outline_c.specs.declared.kept.KeptOutline.{KeptOutline}
-use Rattle.outline_c.specs.Grounds.{edges_on, whole_on, edges_of}
-use Rattle.outline_c.specs.Kept.{frame_of, kept_fault, TakenUp}
-use Rattle.outline_c.specs.Faults.{code_of}
-use Rattle.outline_c.specs.Exports.{answer_code, written, kept_with, left_by, add_left, move_left, drop_left, take_back_left, Stayed, measured_by, measure_left}
+use Rattle.outline_c.specs.Faults.{faulted, told_code, written}
+use Rattle.outline_c.specs.Grounds.{edges_of}
+use Rattle.outline_c.specs.Kept.{frame_of, kept_fault, kept_with, TakenUp}
+use Rattle.outline_c.specs.Exports.{left_by, edit_left, Leaves, Stayed}
 
 -- ---- a refused call leaves everything
 
 module _ (f : Frame) (stations : List Station) (edits : List EditRecord) where
   unfoldable pub Stays : After → Type 0
   Stays a =
-      (answer_code a.answer ≡ 0 → ⊥) → (a.frame ≡ f) × (a.stations ≡ stations) × (a.edits ≡ edits)
+      (told_code (faulted a.answer) ≡ 0 → ⊥) → (a.frame ≡ f) × (a.stations ≡ stations) × (a.edits ≡ edits)
 
   ok_stays : (a : After) (cost : Cost) → a.answer ≡ Ok cost → Stays a
   unfolding Stays
-  ok_stays a cost is = λ faulty. absurd (faulty (ap answer_code is))
+  ok_stays a cost is = λ faulty. absurd (faulty (ap (λ r. told_code (faulted r)) is))
 
   refuse_stays : (edge : Solve) (e : Refusal) → Stays (refuse edge f stations edits e)
   unfolding Stays
@@ -88,71 +88,71 @@ module _ (f : Frame) (stations : List Station) (edits : List EditRecord) where
         let fits = fits_outline f.counts.stations (length stations) e in
         on_rows_stays (cond (eqb f.counts.edits 0) none (cond fits done unfit)) (cond_stays (eqb f.counts.edits 0) none (cond fits done unfit) (refuse_stays edge NothingToTakeBack) (cond_stays fits done unfit (ok_stays done (undrawn edge stations f.counts.stations e).cost refl) (refuse_stays edge UnfitRecord)))
 
-written_stays : (cost : Cost) (r : Result Cost Refusal) → (answer_code r ≡ 0 → ⊥) → written cost r ≡ cost
+written_stays : (cost : Cost) (r : Result Cost Refusal) → (told_code (faulted r) ≡ 0 → ⊥) → written cost (faulted r) ≡ cost
 written_stays cost (Ok spent) = λ faulty. absurd (faulty refl)
 written_stays cost (Err e) = λ faulty. refl
 
--- ---- calls on the outline that is taken up
+-- ---- an edit, and the call from C that makes it
 
-module _ (k : KeptOutline) (stations : List Station) (edits : List EditRecord) (cost : Cost) where
-  left_done : (g : Ground) (f : Frame) (call : Solve → Frame → After) → TakenUp k g f → left_by k stations edits cost (kept_fault k) (call (edges_of k.surface k.scale) (frame_of k)) ≡ left_by k stations edits cost None (call (edges_on g) f)
-  left_done g f call up = rw (up.none, up.edges, up.frame)
+module _ (k : KeptOutline) (stations : List Station) (edits : List EditRecord) (call : Solve → Frame → After) where
+  -- the call was made on an outline that is the one kept
+  pub record Done (answer : Result Cost Fault) (k-after : KeptOutline) (row-after : List Station) (records-after : List EditRecord) : Type 0 where
+    pub on : Ground
+    pub frame : Frame
+    pub up : TakenUp k on frame
+    pub told : answer ≡ faulted (call (edges_on on) frame).answer
+    pub kept : k-after ≡ kept_with k (call (edges_on on) frame).frame.counts
+    pub row : row-after ≡ (call (edges_on on) frame).stations
+    pub records : records-after ≡ (call (edges_on on) frame).edits
 
-  pub add_done : (g : Ground) (f : Frame) → TakenUp k g f → (lat lon : Float) → add_left k stations edits cost lat lon ≡ left_by k stations edits cost None (add_of (edges_on g) f stations edits lat lon)
-  unfolding add_left
-  add_done g f up lat lon = left_done g f (λ edge frame. add_of edge frame stations edits lat lon) up
+  -- nothing was done
+  pub record Undone (e : Fault) (answer : Result Cost Fault) (k-after : KeptOutline) (row-after : List Station) (records-after : List EditRecord) : Type 0 where
+    pub told : answer ≡ Err e
+    pub kept : k-after ≡ k
+    pub row : row-after ≡ stations
+    pub records : records-after ≡ edits
 
-  pub move_done : (g : Ground) (f : Frame) → TakenUp k g f → (place : ℕ) (lat lon : Float) → move_left k stations edits cost place lat lon ≡ left_by k stations edits cost None (move_of (edges_on g) f stations edits place lat lon)
-  unfolding move_left
-  move_done g f up place lat lon = left_done g f (λ edge frame. move_of edge frame stations edits place lat lon) up
+  module _ (before : Cost) (answer : Result Cost Fault) (number : ℕ) (k-after : KeptOutline) (row-after : List Station) (records-after : List EditRecord) (spent : Cost) where
+    leaves_at : (o : Option Fault) → kept_fault k ≡ o → (kept_fault k ≡ None → Done answer k-after row-after records-after) → ((e : Fault) → kept_fault k ≡ Some e → Undone e answer k-after row-after records-after) → number ≡ told_code answer → spent ≡ written before answer → Leaves (left_by k stations edits o (call (edges_of k.surface k.scale) (frame_of k))) before number k-after row-after records-after spent
+    leaves_at None is done undone code cost =
+        let d = done is in
+        let same : call (edges_on d.on) d.frame ≡ call (edges_of k.surface k.scale) (frame_of k) = ap (λ (e : Solve). call e d.frame) d.up.edges ∙ ap (call (edges_of k.surface k.scale)) d.up.frame in
+        let told = d.told ∙ ap (λ (a : After). faulted a.answer) same in
+        record {
+          code = code ∙ ap told_code told;
+          kept = d.kept ∙ ap (λ (a : After). kept_with k a.frame.counts) same;
+          stations = d.row ∙ ap (λ (a : After). a.stations) same;
+          edits = d.records ∙ ap (λ (a : After). a.edits) same;
+          cost = cost ∙ ap (written before) told;
+        }
+    leaves_at (Some e) is done undone code cost =
+        let u = undone e is in
+        record {
+          code = code ∙ ap told_code u.told;
+          kept = u.kept;
+          stations = u.row;
+          edits = u.records;
+          cost = cost ∙ ap (written before) u.told;
+        }
 
-  pub drop_done : (g : Ground) (f : Frame) → TakenUp k g f → (place : ℕ) → drop_left k stations edits cost place ≡ left_by k stations edits cost None (drop_of (edges_on g) f stations edits place)
-  unfolding drop_left
-  drop_done g f up place = left_done g f (λ edge frame. drop_of edge frame stations edits place) up
+    stayed_at : (o : Option Fault) → Stays (frame_of k) stations edits (call (edges_of k.surface k.scale) (frame_of k)) → Leaves (left_by k stations edits o (call (edges_of k.surface k.scale) (frame_of k))) before number k-after row-after records-after spent → (number ≡ 0 → ⊥) → Stayed k k-after stations row-after edits records-after before spent
+    unfolding Stays
+    stayed_at None stays left faulty =
+        let a = call (edges_of k.surface k.scale) (frame_of k) in
+        let refused : told_code (faulted a.answer) ≡ 0 → ⊥ = λ is. faulty (left.code ∙ is) in
+        let same = stays refused in
+        record {
+          kept = left.kept ∙ ap (λ (f : Frame). kept_with k f.counts) same.0;
+          stations = left.stations ∙ same.1;
+          edits = left.edits ∙ same.2;
+          cost = left.cost ∙ written_stays before a.answer refused;
+        }
+    stayed_at (Some e) stays left faulty =
+        record { kept = left.kept; stations = left.stations; edits = left.edits; cost = left.cost }
 
-  pub take_back_done : (g : Ground) (f : Frame) → TakenUp k g f → take_back_left k stations edits cost ≡ left_by k stations edits cost None (take_back_of (edges_on g) f stations edits)
-  unfolding take_back_left
-  take_back_done g f up = left_done g f (λ edge frame. take_back_of edge frame stations edits) up
+    pub leaves : (kept_fault k ≡ None → Done answer k-after row-after records-after) → ((e : Fault) → kept_fault k ≡ Some e → Undone e answer k-after row-after records-after) → number ≡ told_code answer → spent ≡ written before answer → Leaves (edit_left k stations edits call) before number k-after row-after records-after spent
+    leaves = leaves_at (kept_fault k) refl
 
-  -- everything stays where a call on it is refused
-  pub stayed : (g : Ground) (f : Frame) → TakenUp k g f → (a : After) → Stays f stations edits a → (answer_code a.answer ≡ 0 → ⊥) → Stayed k (kept_with k a.frame.counts) stations a.stations edits a.edits cost (written cost a.answer)
-  unfolding Stays
-  stayed g f up a stays faulty =
-      record {
-        kept = ap (λ (x : Frame). kept_with k x.counts) ((stays faulty).0 ∙ up.frame);
-        stations = (stays faulty).1;
-        edits = (stays faulty).2;
-        cost = written_stays cost a.answer faulty;
-      }
-
--- ---- outlines that are not taken up
-
-module _ (k : KeptOutline) (stations : List Station) (edits : List EditRecord) (cost : Cost) (e : Fault) (is : kept_fault k ≡ Some e) where
-  left_fault : (a : After) → left_by k stations edits cost (kept_fault k) a ≡ record { code = code_of e; kept = k; stations = stations; edits = edits; cost = cost }
-  left_fault a = rw is
-
-  pub add_fault : (lat lon : Float) → add_left k stations edits cost lat lon ≡ record { code = code_of e; kept = k; stations = stations; edits = edits; cost = cost }
-  unfolding add_left
-  add_fault lat lon = left_fault (add_of (edges_of k.surface k.scale) (frame_of k) stations edits lat lon)
-
-  pub move_fault : (place : ℕ) (lat lon : Float) → move_left k stations edits cost place lat lon ≡ record { code = code_of e; kept = k; stations = stations; edits = edits; cost = cost }
-  unfolding move_left
-  move_fault place lat lon = left_fault (move_of (edges_of k.surface k.scale) (frame_of k) stations edits place lat lon)
-
-  pub drop_fault : (place : ℕ) → drop_left k stations edits cost place ≡ record { code = code_of e; kept = k; stations = stations; edits = edits; cost = cost }
-  unfolding drop_left
-  drop_fault place = left_fault (drop_of (edges_of k.surface k.scale) (frame_of k) stations edits place)
-
-  pub take_back_fault : take_back_left k stations edits cost ≡ record { code = code_of e; kept = k; stations = stations; edits = edits; cost = cost }
-  unfolding take_back_left
-  take_back_fault = left_fault (take_back_of (edges_of k.surface k.scale) (frame_of k) stations edits)
-
--- ---- measuring
-
-pub measure_done : (k : KeptOutline) (g : Ground) (f : Frame) → TakenUp k g f → (stations : List Station) (edits : List EditRecord) (sign : Bool) (before : Measurement) → measure_left k stations edits sign before ≡ measured_by None before (measure_of (edges_on g) (whole_on g) f stations edits sign)
-unfolding measure_left
-measure_done k g f up stations edits sign before = rw (up.none, up.edges, up.whole, up.frame)
-
-pub measure_fault : (k : KeptOutline) (e : Fault) → kept_fault k ≡ Some e → (stations : List Station) (edits : List EditRecord) (sign : Bool) (before : Measurement) → measure_left k stations edits sign before ≡ record { code = code_of e; measurement = before }
-unfolding measure_left
-measure_fault k e is stations edits sign before = rw is
+    -- where it is refused, everything stays
+    pub stayed : Stays (frame_of k) stations edits (call (edges_of k.surface k.scale) (frame_of k)) → Leaves (edit_left k stations edits call) before number k-after row-after records-after spent → (number ≡ 0 → ⊥) → Stayed k k-after stations row-after edits records-after before spent
+    stayed = stayed_at (kept_fault k)

@@ -1,40 +1,24 @@
--- What each call from C answers and leaves: its code, the outline that is kept, the rows, and what stands behind the last pointer. Assumes nothing.
+-- What each call from C answers and leaves: its answer, the outline that is kept and the rows. Assumes nothing.
 use Rattle.std.specs.Prelude.{◌≡◌, ℕ, Bool, List, Some, None, Ok, Err, Option, Result, Float}
 use Rattle.functions.specs.Series.{series}
-use Rattle.surface.specs.declared.refusals.Refusal.{Refusal}
-use Rattle.surface.specs.Refusals.{number_of}
+use Rattle.inverse.specs.declared.problem.Directions.{Directions}
 use Rattle.inverse.specs.declared.problem.Inverse.{Inverse}
 use Rattle.inverse.specs.Inverse.{inverse}
 use Rattle.earth.specs.Wgs84.{wgs84}
 use Rattle.geodesic.specs.Answers.{answered}
+use Rattle.polygon.specs.Polygons.{Solve}
 use Rattle.stations.specs.declared.Cost.{Cost}
 use Rattle.stations.specs.declared.Station.{Station}
 use Rattle.stations.specs.declared.records.EditRecord.{EditRecord}
-use Rattle.history.specs.declared.Sizes.{Sizes}
+use Rattle.history.specs.declared.Frame.{Frame}
 use Rattle.history.specs.declared.Measurement.{Measurement}
 use Rattle.history.specs.Calls.{After, open_refusal, add_of, move_of, drop_of, take_back_of, measure_of}
 use Rattle.outline_c.specs.declared.faults.Fault.{Fault}
+use Rattle.outline_c.specs.declared.figures.InverseFigures.{InverseFigures}
 use Rattle.outline_c.specs.declared.kept.KeptOutline.{KeptOutline}
-use Rattle.outline_c.specs.Faults.{code_of, fault_of, first_fault}
+use Rattle.outline_c.specs.Faults.{fault_of, faulted, unless_fault, first_fault, told_code, written}
 use Rattle.outline_c.specs.Grounds.{edges_of, whole_of, ground_fault}
-use Rattle.outline_c.specs.Kept.{winding_fault, frame_of, kept_fault}
-
--- ---- codes, and what is written behind a pointer
-
--- 0 where there is no fault
-abbrev pub fault_code : Option Fault → ℕ
-fault_code None = 0
-fault_code (Some fault) = code_of fault
-
--- 0 where a call answers, else the number of its refusal
-abbrev pub answer_code : {A : Type 0} → Result A Refusal → ℕ
-answer_code (Ok answer) = 0
-answer_code (Err refusal) = number_of refusal
-
--- the answer, or what stood there before
-abbrev pub written : {A : Type 0} → A → Result A Refusal → A
-written before (Ok answer) = answer
-written before (Err refusal) = before
+use Rattle.outline_c.specs.Kept.{winding_fault, frame_of, kept_fault, kept_with}
 
 -- ---- opening
 
@@ -53,50 +37,48 @@ opened_kept surface scale winding stations edits =
       counts = record { stations = 0; edits = 0 };
     }
 
--- the second where there is no fault, else the first
-abbrev pub unless_fault : {A : Type 0} → Option Fault → A → A → A
-unless_fault None before after = after
-unless_fault (Some fault) before after = before
+-- the outline that is kept from then on, or the fault
+abbrev pub opened : ℕ → Float → ℕ → ℕ → ℕ → Result KeptOutline Fault
+opened surface scale winding stations edits =
+    unless_fault (open_fault surface scale winding stations edits) (Ok (opened_kept surface scale winding stations edits))
 
 -- ---- the edits
 
 pub record Left : Type 0 where
-  pub code : ℕ
+  pub answer : Result Cost Fault
   pub kept : KeptOutline
   pub stations : List Station
   pub edits : List EditRecord
-  pub cost : Cost
 
-abbrev pub kept_with : KeptOutline → Sizes → KeptOutline
-kept_with k counts =
-    record { scale = k.scale; surface = k.surface; winding = k.winding; lengths = k.lengths; counts = counts }
-
-module _ (k : KeptOutline) (stations : List Station) (edits : List EditRecord) (cost : Cost) where
+module _ (k : KeptOutline) (stations : List Station) (edits : List EditRecord) where
   -- where the kept outline can be taken up, what the call on it leaves; otherwise everything stays
   abbrev pub left_by : Option Fault → After → Left
   left_by None a =
-      record {
-        code = answer_code a.answer;
-        kept = kept_with k a.frame.counts;
-        stations = a.stations;
-        edits = a.edits;
-        cost = written cost a.answer;
-      }
-  left_by (Some fault) a =
-      record { code = code_of fault; kept = k; stations = stations; edits = edits; cost = cost }
+      record { answer = faulted a.answer; kept = kept_with k a.frame.counts; stations = a.stations; edits = a.edits }
+  left_by (Some fault) a = record { answer = Err fault; kept = k; stations = stations; edits = edits }
+
+  abbrev pub edit_left : (Solve → Frame → After) → Left
+  edit_left call = left_by (kept_fault k) (call (edges_of k.surface k.scale) (frame_of k))
 
   unfoldable pub add_left : Float → Float → Left
-  add_left lat lon = left_by (kept_fault k) (add_of (edges_of k.surface k.scale) (frame_of k) stations edits lat lon)
+  add_left lat lon = edit_left (λ edge f. add_of edge f stations edits lat lon)
 
   unfoldable pub move_left : ℕ → Float → Float → Left
-  move_left place lat lon =
-      left_by (kept_fault k) (move_of (edges_of k.surface k.scale) (frame_of k) stations edits place lat lon)
+  move_left place lat lon = edit_left (λ edge f. move_of edge f stations edits place lat lon)
 
   unfoldable pub drop_left : ℕ → Left
-  drop_left place = left_by (kept_fault k) (drop_of (edges_of k.surface k.scale) (frame_of k) stations edits place)
+  drop_left place = edit_left (λ edge f. drop_of edge f stations edits place)
 
   unfoldable pub take_back_left : Left
-  take_back_left = left_by (kept_fault k) (take_back_of (edges_of k.surface k.scale) (frame_of k) stations edits)
+  take_back_left = edit_left (λ edge f. take_back_of edge f stations edits)
+
+-- a call from C tells its answer, by a code and a cost, and leaves the rest
+pub record Leaves (left : Left) (before : Cost) (number : ℕ) (k-after : KeptOutline) (row-after : List Station) (records-after : List EditRecord) (spent : Cost) : Type 0 where
+  pub code : number ≡ told_code left.answer
+  pub kept : k-after ≡ left.kept
+  pub stations : row-after ≡ left.stations
+  pub edits : records-after ≡ left.edits
+  pub cost : spent ≡ written before left.answer
 
 -- everything is as it was
 pub record Stayed (k k-after : KeptOutline) (row row-after : List Station) (records records-after : List EditRecord) (spent spent-after : Cost) : Type 0 where
@@ -107,18 +89,25 @@ pub record Stayed (k k-after : KeptOutline) (row row-after : List Station) (reco
 
 -- ---- figures
 
-pub record Measured : Type 0 where
-  pub code : ℕ
-  pub measurement : Measurement
+abbrev pub measured_on : KeptOutline → List Station → List EditRecord → Bool → Result Measurement Fault
+measured_on k stations edits sign =
+    unless_fault (kept_fault k) (faulted (measure_of (edges_of k.surface k.scale) (whole_of k.surface k.scale) (frame_of k) stations edits sign))
 
-abbrev pub measured_by : Option Fault → Measurement → Result Measurement Refusal → Measured
-measured_by None before answer = record { code = answer_code answer; measurement = written before answer }
-measured_by (Some fault) before answer = record { code = code_of fault; measurement = before }
-
-unfoldable pub measure_left : KeptOutline → List Station → List EditRecord → Bool → Measurement → Measured
-measure_left k stations edits sign before =
-    measured_by (kept_fault k) before (measure_of (edges_of k.surface k.scale) (whole_of k.surface k.scale) (frame_of k) stations edits sign)
+-- an inverse as C knows it
+abbrev pub figures_from : Inverse Directions → InverseFigures
+figures_from r =
+    record {
+      a12 = r.a12;
+      s12 = r.s12;
+      directions = r.directions;
+      m12 = r.m12;
+      M12 = r.M12;
+      M21 = r.M21;
+      S12 = r.S12;
+      evaluations = r.evaluations;
+    }
 
 -- the inverse on the WGS84 ellipsoid over the series set
-abbrev pub inverse_of : Float → Float → Float → Float → ℕ → Result Inverse Refusal
-inverse_of lat1 lon1 lat2 lon2 mask = answered lat1 lon1 lat2 lon2 (inverse series wgs84 mask lat1 lon1 lat2 lon2)
+abbrev pub inverse_of : Float → Float → Float → Float → ℕ → Result InverseFigures Fault
+inverse_of lat1 lon1 lat2 lon2 mask =
+    faulted (answered lat1 lon1 lat2 lon2 (figures_from (inverse series wgs84 mask lat1 lon1 lat2 lon2)))

@@ -13,6 +13,6 @@ pub use edits::{
     outline_add, outline_drop, outline_move, outline_open_plate, outline_open_wgs84,
     outline_take_back,
 };
-pub use figures::{outline_inverse, outline_measure};
+pub use figures::{InverseFigures, outline_inverse, outline_measure};
 pub use kept::KeptOutline;
 pub use sheets::{ToldFault, outline_draw};

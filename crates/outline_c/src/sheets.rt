@@ -9,8 +9,8 @@ use packed::{Layer, SheetFault, Told};
 use stations::{EditRecord, Station};
 
 // What is told of a fault of a sheet: its layer (1 bits, 2 field, 3 outline), its number, the edit,
-// counted from 1, and the bit, counted from 0.
-#[derive(Clone, Copy)]
+// counted from 1, or 0 for the header, and the bit, counted from 0. `Told` has no layout that C knows.
+#[derive(Clone, Copy, PartialEq, Eq, Hash, Debug)]
 #[repr(C)]
 pub struct ToldFault {
     pub layer: u8,
@@ -19,6 +19,7 @@ pub struct ToldFault {
     pub bit: usize,
 }
 
+// The number of a layer. No From: the numbers are C's, which `packed` does not know.
 fn layer_number(layer: Layer) -> u8
     ensures { result ≡ layer_number layer }
 {
@@ -29,21 +30,22 @@ fn layer_number(layer: Layer) -> u8
     }
 }
 
-// What is told of a fault.
-fn told_fault(fault: SheetFault) -> ToldFault
-    ensures { result ≡ told_fault fault }
-{
-    let Told {
-        layer,
-        number,
-        edit,
-        bit,
-    } = fault.told();
-    ToldFault {
-        layer: layer_number(layer),
-        number,
-        edit,
-        bit,
+impl From<SheetFault> for ToldFault {
+    ghost from_gives = { λ fault t. t ≡ told_fault fault };
+
+    fn from(fault: SheetFault) -> ToldFault {
+        let Told {
+            layer,
+            number,
+            edit,
+            bit,
+        } = fault.told();
+        ToldFault {
+            layer: layer_number(layer),
+            number,
+            edit,
+            bit,
+        }
     }
 }
 
@@ -69,8 +71,8 @@ pub extern "C" fn outline_draw(
             0
         }
         Err(found) => {
-            *fault = told_fault(found);
-            fault.number as u32
+            *fault = found.into();
+            fault.number.into()
         }
     }
 }

@@ -5,20 +5,16 @@ mod edits;
 mod options;
 mod sheets;
 
-use anyhow::anyhow;
-use options::{Flag, Options};
+use options::Options;
 use sheets::sheet_of;
-use std::env;
-use std::io::{Read, Write};
+use std::io::Write;
+use std::{env, io};
 
 // The options that the command line switches.
 fn read_options(rt: &HostRuntime) -> anyhow::Result<Options> {
-    let mut options = Options::usual();
+    let mut options = Options::default();
     for word in env::args(rt)?.skip(1) {
-        let Some(flag) = Flag::named(word.as_str()) else {
-            return Err(anyhow!("usage: pack [-p] [-r] [-u] < calls > sheet"));
-        };
-        options = options.switched(flag);
+        options = options.switched(word.parse()?);
     }
     Ok(options)
 }
@@ -26,15 +22,10 @@ fn read_options(rt: &HostRuntime) -> anyhow::Result<Options> {
 fn run(rt: &HostRuntime) -> anyhow::Result<()> {
     let options = read_options(rt)?;
     let heap = rt.alloc();
-    let mut text = String::new(heap);
-    rt.stdin().read_to_string(&mut text)?;
-    match sheet_of(heap, options, text.as_str()) {
-        Ok(bytes) => {
-            rt.stdout().write_all(bytes.as_slice())?;
-            Ok(())
-        }
-        Err(fault) => Err(anyhow!(format!(in heap; "{fault}")?)),
-    }
+    let text = io::read_to_string(heap, rt.stdin())?;
+    let bytes = sheet_of(heap, options, text.as_str())?;
+    rt.stdout().write_all(bytes.as_slice())?;
+    Ok(())
 }
 
 fn main(rt: HostRuntime) -> anyhow::Result<()> {

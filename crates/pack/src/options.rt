@@ -4,8 +4,10 @@ ghost use Rattle.pack.specs.Options.{usual, switched, Named, header_from};
 
 use area::Winding;
 use packed::{Header, SurfaceKind};
+use std::str::FromStr;
+use thiserror::Error;
 
-#[derive(Clone, Copy)]
+#[derive(Clone, Copy, PartialEq, Eq, Debug, Hash)]
 pub enum Flag {
     // -p: the plate of one unit to a degree
     Plate,
@@ -15,39 +17,48 @@ pub enum Flag {
     Unsigned,
 }
 
-impl Flag {
-    // The flag that a word names.
-    pub fn named(word: &str) -> Option<Flag>
-        ensures { Named word.now result }
-    {
+// A word that names no flag of this program.
+#[derive(Clone, Copy, PartialEq, Eq, Debug, Hash, Error)]
+#[error("usage: pack [-p] [-r] [-u] < calls > sheet")]
+pub struct UnknownFlag;
+
+impl FromStr for Flag {
+    type Err = UnknownFlag;
+
+    ghost from_str_gives = { Named };
+
+    fn from_str(word: &str) -> Result<Flag, UnknownFlag> {
         match word {
-            "-p" => Some(Flag::Plate),
-            "-r" => Some(Flag::Reverse),
-            "-u" => Some(Flag::Unsigned),
-            _ => None,
+            "-p" => Ok(Flag::Plate),
+            "-r" => Ok(Flag::Reverse),
+            "-u" => Ok(Flag::Unsigned),
+            _ => Err(UnknownFlag),
         }
     }
 }
 
-#[derive(Clone, Copy)]
+// What the flags switch, each one of the three.
+#[derive(Clone, Copy, PartialEq, Eq, Debug, Hash)]
 pub struct Options {
     pub surface: SurfaceKind,
     pub winding: Winding,
     pub signed: bool,
 }
 
-impl Options {
-    // The WGS84 ellipsoid, counter-clockwise positive, with a sign.
-    pub fn usual() -> Options
-        ensures { result ≡ usual }
-    {
+// The WGS84 ellipsoid, counter-clockwise positive, with a sign.
+impl Default for Options {
+    ghost is_default = { λ options. options ≡ usual };
+
+    fn default() -> Options {
         Options {
             surface: SurfaceKind::Wgs84,
             winding: Winding::CounterClockwise,
             signed: true,
         }
     }
+}
 
+impl Options {
     // With one flag more.
     pub fn switched(self, flag: Flag) -> Options
         ensures { result ≡ switched self flag }
@@ -57,13 +68,10 @@ impl Options {
                 surface: SurfaceKind::Plate,
                 ..self
             },
-            Flag::Reverse => {
-                let winding = match self.winding {
-                    Winding::Clockwise => Winding::CounterClockwise,
-                    Winding::CounterClockwise => Winding::Clockwise,
-                };
-                Options { winding, ..self }
-            }
+            Flag::Reverse => Options {
+                winding: self.winding.reversed(),
+                ..self
+            },
             Flag::Unsigned => Options {
                 signed: !self.signed,
                 ..self
@@ -75,14 +83,12 @@ impl Options {
     pub fn header(self, edits: usize) -> Option<Header>
         ensures { result ≡ header_from self edits }
     {
-        if edits > 65535 {
-            return None;
-        }
+        let edits = u16::try_from(edits).ok()?;
         Some(Header {
             winding: self.winding,
             signed: self.signed,
             surface: self.surface,
-            edits: edits as u16,
+            edits,
         })
     }
 }

@@ -13,13 +13,8 @@ fn sheet_from(heap: Global, options: Options, edits: &[Edit]) -> Result<Vec<u8>,
     ensures bytes { MatchResult result (λ v. sheet_from options edits.now ≡ Ok v.items) (λ f. (f ≡ no_memory) ⊎ (sheet_from options edits.now ≡ Err f)) }
     ensures reads_back { IfOk result (λ v. Unpacks options edits.now v.items) }
 {
-    let Some(header) = options.header(edits.len()) else {
-        return Err(Fault::TooMany);
-    };
-    match pack(heap, header, edits) {
-        Ok(bytes) => Ok(bytes),
-        Err(fault) => Err(Fault::Sheet(fault)),
-    }
+    let header = options.header(edits.len()).ok_or(Fault::TooMany)?;
+    Ok(pack(heap, header, edits)?)
 }
 
 // The sheet of a text.

@@ -1,23 +1,13 @@
--- A field grows bit by bit: a bit is 0 or 1, so a field of w bits is below 2^w, and a bit past the end is 0.
-use Rattle.std.proofs.Common.{◌≡◌, ℕ, zero, suc, ◌+◌, ◌-◌, ◌*◌, ◌/◌, ◌%◌, ◌^◌, ◌<◌, ◌≤◌, List, length, get_or, Some, None, Ok, Err, sym, refl, ap, ◌∙◌, subst, pow-suc, arith, le-ltb, lt-ltb, eq-eqb, ne_eqb, le-leb}
-use native.Mathlib.Nat.{zero-div}
-use Rattle.std.proofs.lemmas.List.{get_or_past}
+-- A field grows bit by bit: a bit is 0 or 1, so a field of w bits is below 2^w.
+use Rattle.std.proofs.Common.{◌≡◌, ℕ, zero, suc, ◌+◌, ◌-◌, ◌*◌, ◌/◌, ◌%◌, ◌^◌, ◌<◌, ◌≤◌, List, length, get_or, Some, None, Ok, sym, refl, ap, ◌∙◌, subst, pow-suc, arith, le-ltb, eq-eqb, ne_eqb, le-leb, inl, inr, Option, MatchOption}
 use Rattle.std.proofs.lemmas.Nat.{mod_below}
-use borrow.Author.Tests.{lt-leb}
-use Rattle.packed.specs.declared.faults.BitFault.TheVariants.{Ends, TooLong}
+use Rattle.std.proofs.lemmas.Bool.Decides.{eqb_tells}
 use Rattle.packed.specs.Bits.{bit, field, field_at}
 use Rattle.packed.specs.Sheets.{first_one}
 
 pub bit_below : (bytes : List ℕ) (k : ℕ) → bit bytes k < 2
 unfolding bit
 bit_below bytes k = mod_below (get_or bytes (k / 8) 0 / 2 ^ (7 - k % 8)) 2 (omega arith)
-
-zero_bit : (n : ℕ) → 0 / n % 2 ≡ 0
-zero_bit n = ap (λ m. m % 2) (zero-div n)
-
-pub bit_past : (bytes : List ℕ) (k : ℕ) → length bytes ≤ k / 8 → bit bytes k ≡ 0
-unfolding bit
-bit_past bytes k h = ap (λ b. b / 2 ^ (7 - k % 8) % 2) (get_or_past bytes (k / 8) 0 h) ∙ zero_bit (2 ^ (7 - k % 8))
 
 pub field-none : (bytes : List ℕ) (at : ℕ) → field bytes at 0 ≡ 0
 unfolding field
@@ -39,18 +29,10 @@ field_below bytes at (suc width) =
     subst (λ n. n < 2 ^ suc width) (sym (field_more bytes at width))
     (one_more_below (field bytes at width) (bit bytes (at + width)) width (field_below bytes at width) (bit_below bytes (at + width)))
 
--- what reading a field answers, in its three cases
-pub read_long : (bytes : List ℕ) (at width : ℕ) → 65536 < length bytes → field_at bytes at width ≡ Err TooLong
-unfolding field_at
-read_long bytes at width h = rw (lt-ltb 65536 (length bytes) h)
-
+-- a field within a file that is not too long is read
 pub read_inside : (bytes : List ℕ) (at width : ℕ) → length bytes ≤ 65536 → at + width ≤ 8 * length bytes → field_at bytes at width ≡ Ok (field bytes at width)
 unfolding field_at
 read_inside bytes at width short inside = rw (le-ltb 65536 (length bytes) short, le-leb (at + width) (8 * length bytes) inside)
-
-pub read_past : (bytes : List ℕ) (at width : ℕ) → length bytes ≤ 65536 → 8 * length bytes < at + width → field_at bytes at width ≡ Err (Ends at)
-unfolding field_at
-read_past bytes at width short past = rw (le-ltb 65536 (length bytes) short, lt-leb (at + width) (8 * length bytes) past)
 
 -- the search for a one, bit by bit
 pub first_none : (bytes : List ℕ) (at : ℕ) → first_one bytes at 0 ≡ None
@@ -64,3 +46,25 @@ first_here bytes at count one = rw (eq-eqb (bit bytes at) 1 one)
 pub first_later : (bytes : List ℕ) (at count : ℕ) → (bit bytes at ≡ 1 → ⊥) → first_one bytes at (suc count) ≡ first_one bytes (suc at) count
 unfolding first_one
 first_later bytes at count other = rw (ne_eqb (bit bytes at) 1 other)
+
+pub none_found : (bytes : List ℕ) (at count : ℕ) → ((k : ℕ) → at ≤ k → k < at + count → bit bytes k ≡ 1 → ⊥) → None ≡ first_one bytes at count
+none_found bytes at zero h = sym (first_none bytes at)
+none_found bytes at (suc count) h =
+    none_found bytes (suc at) count (λ k l m. h k (omega arith) (omega arith)) ∙ sym (first_later bytes at count (h at (omega arith) (omega arith)))
+
+pub one_found : (bytes : List ℕ) (at count i : ℕ) → at ≤ i → i < at + count → bit bytes i ≡ 1 → ((k : ℕ) → at ≤ k → k < i → bit bytes k ≡ 1 → ⊥) → Some i ≡ first_one bytes at count
+one_found bytes at zero i low high one none = absurd (omega arith)
+one_found bytes at (suc count) i low high one none =
+    elim (eqb_tells i at) [
+      | inl same ↦ ap Some same.1 ∙ sym (first_here bytes at count (ap (bit bytes) (sym same.1) ∙ one))
+      | inr other ↦
+          let past : at < i = omega (arith, other.1) in
+          one_found bytes (suc at) count i past (omega arith) one (λ k l m. none k (omega arith) m) ∙ sym (first_later bytes at count (none at (omega arith) past))
+    ]
+
+-- the first place of a range that holds a one
+pub found : (bytes : List ℕ) (at count : ℕ) (r : Option ℕ)
+    → MatchOption r ((k : ℕ) → at ≤ k → k < at + count → bit bytes k ≡ 1 → ⊥) (λ i. (at ≤ i) × (i < at + count) × (bit bytes i ≡ 1) × ((k : ℕ) → at ≤ k → k < i → bit bytes k ≡ 1 → ⊥))
+    → r ≡ first_one bytes at count
+found bytes at count None h = none_found bytes at count h
+found bytes at count (Some i) h = one_found bytes at count i h.0 h.1 h.2 h.3

@@ -1,10 +1,11 @@
 -- A packed sheet reads back as the header and the edits that it was packed from: each field is read where it was written, and each edit where the one before it ends.
-use Rattle.std.proofs.Common.{◌≡◌, ℕ, zero, suc, ◌+◌, ◌*◌, ◌/◌, ◌^◌, ◌<◌, ◌≤◌, Bool, true, false, T, eqb, List, [], ◌∷◌, ◌++◌, length, get_or, replicate, None, Ok, sym, refl, ap, ◌∙◌, subst, arith, length-append, le-ltb, leb-true}
-use borrow.Author.Tests.{clash}
+use Rattle.std.proofs.Common.{◌≡◌, ℕ, zero, suc, ◌+◌, ◌*◌, ◌/◌, ◌^◌, ◌<◌, ◌≤◌, Bool, true, false, eqb, List, [], ◌∷◌, ◌++◌, length, get_or, replicate, None, Ok, sym, refl, ap, ◌∙◌, subst, arith, length-append, le-ltb, leb-true}
 use lib.Ieee.{Float, binary64, to_bits, of_bits, fits}
 use lib.Ieee.Bits.{of_bits-to_bits, to_bits-lt}
 use lib.ListN.{length-replicate}
+use Rattle.std.specs.Int.{div_ceil}
 use Rattle.std.specs.List.{AllByRecursion as All}
+use Rattle.std.proofs.lemmas.Float.{T_from_true}
 use Rattle.std.proofs.lemmas.Nat.{mod_below}
 use Rattle.std.proofs.ByRecursion.{All-append}
 use Rattle.std.proofs.lemmas.List.{get_or_past}
@@ -18,7 +19,7 @@ use Rattle.packed.specs.declared.sheets.Edit.TheVariants.{Add, Move, Drop, TakeB
 use Rattle.packed.specs.Bits.{bit, field_at}
 use Rattle.packed.specs.Sheets.{header_of, edit_at, edit_of, add_at, move_at, drop_at, point_at, end_of, first_one, fill_bits, winding_of, surface_of}
 use Rattle.packed.specs.Packing.{digits_of, point_digits, edit_digits, edits_digits, header_digits, width_of, winding_bit, signed_bit, surface_bits, IsFloat, Fitting, bytes_for, sheet_bytes, ReadsEdits, ReadsBack}
-use Rattle.packed.proofs.Fields.{first_none, first_later, read_inside}
+use Rattle.packed.proofs.Fields.{none_found, read_inside}
 use Rattle.packed.proofs.Reading.{Spells, first_part, second_part, reads_field, written-bits}
 use Rattle.packed.proofs.Writing.{edits_more, edits_none, length_digits, length_edit, length-header, length-with}
 
@@ -54,15 +55,11 @@ unfolding header_digits
 header_binary h =
     then_binary 4 1 _ (then_binary 1 (winding_bit h.winding) _ (then_binary 1 (signed_bit h.signed) _ (then_binary 2 (surface_bits h.surface) _ (digits_binary 16 h.edits))))
 
-holds : (b : Bool) → b ≡ true → T b
-holds true h = tt
-holds false h = absurd (clash h)
-
 pattern_below : (x : Float) → IsFloat x → to_bits binary64 x < 2 ^ 64
-pattern_below x h = to_bits-lt binary64 x (holds (fits binary64 x) h)
+pattern_below x h = to_bits-lt binary64 x (T_from_true (fits binary64 x) h)
 
 pattern_back : (x : Float) → IsFloat x → of_bits binary64 (to_bits binary64 x) ≡ x
-pattern_back x h = of_bits-to_bits binary64 x (holds (fits binary64 x) h)
+pattern_back x h = of_bits-to_bits binary64 x (T_from_true (fits binary64 x) h)
 
 place_below : (place : ℕ) → place ≤ 4095 → place < 2 ^ 12
 place_below place h = omega arith
@@ -141,8 +138,7 @@ module _ (bytes : List ℕ) (short : length bytes ≤ 65536) where
       )
 
   no_one : (p n : ℕ) → ((k : ℕ) → p ≤ k → bit bytes k ≡ 0) → first_one bytes p n ≡ None
-  no_one p zero zeros = first_none bytes p
-  no_one p (suc n) zeros = first_later bytes p n (λ one. let z : ◌≡◌ {A = ℕ} 0 1 = sym (zeros p (omega arith)) ∙ one in omega arith) ∙ no_one (suc p) n (λ k h. zeros k (omega arith))
+  no_one p n zeros = sym (none_found bytes p n (λ k low high one. let z : ◌≡◌ {A = ℕ} 0 1 = sym (zeros k low) ∙ one in omega arith))
 
   pub reads_end : (p : ℕ) → length bytes ≡ bytes_for p → ((k : ℕ) → p ≤ k → bit bytes k ≡ 0) → end_of bytes p ≡ Ok tt
   unfolding end_of
@@ -168,6 +164,10 @@ module _ (bytes : List ℕ) (short : length bytes ≤ 65536) where
       let surface-read = reads_field bytes 6 2 (surface_bits h.surface) short (omega arith) (surface_below h.surface) (first_part bytes 6 surface _ six) in
       let edits-read = reads_field bytes 8 16 h.edits short (omega arith) few eight in
       rw (edition-read, winding-read, Sign-read, surface-read, surface_back h.surface, edits-read, winding_back h.winding, sign_back h.signed)
+
+-- so many bits take as many bytes as their number divided by 8 and rounded up
+pub rounded_up : (bits : ℕ) → div_ceil bits 8 ≡ bytes_for bits
+rounded_up bits = omega arith
 
 pub room : (n end : ℕ) → n ≡ bytes_for end → end ≤ 524288 → (n ≤ 65536) × (end ≤ 8 * n)
 room n end e h = (omega arith, omega arith)

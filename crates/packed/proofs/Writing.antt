@@ -1,14 +1,15 @@
 -- Digits are set one by one, so those of one field after those of another are the digits of both; the length of the bytes stays.
-use Rattle.std.proofs.Common.{◌≡◌, ℕ, zero, suc, ◌+◌, ◌-◌, ◌*◌, ◌/◌, ◌%◌, ◌^◌, ◌<◌, ◌≤◌, true, false, List, [], ◌∷◌, ◌++◌, length, get_or, drop, Ok, Err, sym, refl, ap, ◌∙◌, arith, length-append, length-set, drop-cons, le-leb}
+use Rattle.std.proofs.Common.{◌≡◌, ℕ, zero, suc, ◌+◌, ◌-◌, ◌*◌, ◌/◌, ◌%◌, ◌^◌, ◌<◌, ◌≤◌, true, false, List, [], ◌∷◌, ◌++◌, length, get_or, drop, Ok, Err, sym, refl, ap, ◌∙◌, subst, Bool, arith, length-append, length-set, drop-cons, le-leb}
 use borrow.Author.Tests.{lt-leb}
 use lib.Bits.{bit_or}
-use lib.Ieee.{binary64, to_bits}
+use Rattle.std.specs.Int.{from_bool}
 use Rattle.std.proofs.lemmas.Nat.{shl_whole}
+use Rattle.packed.specs.declared.bits.BitWriter.{BitWriter}
 use Rattle.packed.specs.declared.packs.PackFault.TheVariants.{Place, TooLong}
 use Rattle.packed.specs.declared.sheets.Edit.{Edit}
 use Rattle.packed.specs.declared.sheets.Edit.TheVariants.{Add, Move, Drop, TakeBack}
 use Rattle.packed.specs.declared.sheets.Header.{Header}
-use Rattle.packed.specs.Packing.{digits_of, header_digits, edit_digits, edits_digits, width_of, with_bit, with_digits, place_fits, packed_end}
+use Rattle.packed.specs.Packing.{digits_of, header_digits, edit_digits, edits_digits, width_of, with_bit, with_digits, Writes, signed_bit, place_fits, packed_end}
 
 -- a digit shifted within a byte loses nothing
 pub digit_shifted : (d k : ℕ) → d < 2 → k ≤ 7 → (d * 2 ^ k) % 256 ≡ d * 2 ^ k
@@ -53,57 +54,46 @@ length-with bytes at (d ∷ ds) =
     length-with (with_bit bytes at d) (suc at) ds
     ∙ length-with-bit bytes at d
 
--- the digits of two fields, one after the other
-pub with_two : (bytes : List ℕ) (at w n : ℕ) (ys : List ℕ) → with_digits (with_digits bytes at (digits_of w n)) (at + w) ys ≡ with_digits bytes at (digits_of w n ++ ys)
-with_two bytes at w n ys = sym (with_append bytes at (digits_of w n) ys ∙ ap (λ k. with_digits (with_digits bytes at (digits_of w n)) (at + k) ys) (length_digits w n))
-
 -- where edits end
 pub end_none : (at : ℕ) → packed_end at [] ≡ Ok at
 unfolding packed_end
 end_none at = refl
 
-pub end_misplaced : (at : ℕ) (e : Edit) (es : List Edit) → place_fits e ≡ false → packed_end at (e ∷ es) ≡ Err Place
+pub end_misplaced : (es : List Edit) (i : ℕ) (d : Edit) (at : ℕ) → i < length es → place_fits (get_or es i d) ≡ false → packed_end at (drop i es) ≡ Err Place
 unfolding packed_end
-end_misplaced at e es out = rw out
+end_misplaced es i d at h out = ap (packed_end at) (drop-cons es i d h) ∙ rw out
 
-pub end_long : (at : ℕ) (e : Edit) (es : List Edit) → place_fits e ≡ true → 524288 < at + width_of e → packed_end at (e ∷ es) ≡ Err TooLong
+pub end_long : (es : List Edit) (i : ℕ) (d : Edit) (at : ℕ) → i < length es → place_fits (get_or es i d) ≡ true → 524288 < at + width_of (get_or es i d) → packed_end at (drop i es) ≡ Err TooLong
 unfolding packed_end
-end_long at e es fits past = rw (fits, lt-leb (at + width_of e) 524288 past)
+end_long es i d at h fits past = ap (packed_end at) (drop-cons es i d h) ∙ rw (fits, lt-leb (at + width_of (get_or es i d)) 524288 past)
 
-pub end_more : (at : ℕ) (e : Edit) (es : List Edit) → place_fits e ≡ true → at + width_of e ≤ 524288 → packed_end at (e ∷ es) ≡ packed_end (at + width_of e) es
+pub end_more : (es : List Edit) (i : ℕ) (d : Edit) (at : ℕ) → i < length es → place_fits (get_or es i d) ≡ true → at + width_of (get_or es i d) ≤ 524288 → packed_end at (drop i es) ≡ packed_end (at + width_of (get_or es i d)) (drop (suc i) es)
 unfolding packed_end
-end_more at e es fits inside = rw (fits, le-leb (at + width_of e) 524288 inside)
+end_more es i d at h fits inside = ap (packed_end at) (drop-cons es i d h) ∙ rw (fits, le-leb (at + width_of (get_or es i d)) 524288 inside)
 
-pub end_from : (es : List Edit) (i : ℕ) (d : Edit) (at : ℕ) → i < length es → packed_end at (drop i es) ≡ packed_end at (get_or es i d ∷ drop (suc i) es)
-end_from es i d at h = ap (packed_end at) (drop-cons es i d h)
+-- what is written after other digits is written with them
+pub then_writes : (u v w : BitWriter) (xs ys : List ℕ) → Writes u xs v → Writes v ys w → Writes u (xs ++ ys) w
+then_writes u v w xs ys h k =
+    record {
+      bytes =
+          k.bytes ∙ ap (λ x. with_digits x v.at ys) h.bytes ∙ ap (λ n. with_digits (with_digits u.bytes.items u.at xs) n ys) h.next
+          ∙ sym (with_append u.bytes.items u.at xs ys);
+      next = omega (arith, h.next, k.next, length-append xs ys);
+      room = k.room ∙ h.room;
+    }
 
--- a field b1 was written at `at`, and then what follows it
-pub then_field : (b b1 b2 : List ℕ) (at w n : ℕ) (ys : List ℕ) → b1 ≡ with_digits b at (digits_of w n) → b2 ≡ with_digits b1 (at + w) ys → b2 ≡ with_digits b at (digits_of w n ++ ys)
-then_field b b1 b2 at w n ys e1 e2 = e2 ∙ ap (λ x. with_digits x (at + w) ys) e1 ∙ with_two b at w n ys
+-- likewise after a field, whose number is known by another name
+pub last_field : (u v : BitWriter) (width m n : ℕ) → m ≡ n → Writes u (digits_of width m) v → Writes u (digits_of width n) v
+last_field u v width m n e h = subst (λ z. Writes u (digits_of width z) v) e h
 
-sums2 : {a b x y : ℕ} → a ≡ x → b ≡ y → a + b ≡ x + y
-sums2 p q = omega arith
-
-sums3 : {a b c x y z : ℕ} → a ≡ x → b ≡ y → c ≡ z → a + (b + c) ≡ x + (y + z)
-sums3 p q r = omega arith
-
-sums4 : {a b c d x y z u : ℕ} → a ≡ x → b ≡ y → c ≡ z → d ≡ u → a + (b + (c + d)) ≡ x + (y + (z + u))
-sums4 p q r s = omega arith
+pub then_field : (u v w : BitWriter) (width m n : ℕ) (ys : List ℕ) → m ≡ n → Writes u (digits_of width m) v → Writes v ys w → Writes u (digits_of width n ++ ys) w
+then_field u v w width m n ys e h k = then_writes u v w (digits_of width n) ys (last_field u v width m n e h) k
 
 pub length_edit : (e : Edit) → length (edit_digits e) ≡ width_of e
 unfolding edit_digits
-length_edit (Add lat lon) =
-    length-append (digits_of 2 0) (digits_of 64 (to_bits binary64 lat) ++ digits_of 64 (to_bits binary64 lon))
-    ∙ ap (λ n. length (digits_of 2 0) + n) (length-append (digits_of 64 (to_bits binary64 lat)) (digits_of 64 (to_bits binary64 lon)))
-    ∙ sums3 (length_digits 2 0) (length_digits 64 (to_bits binary64 lat)) (length_digits 64 (to_bits binary64 lon))
-length_edit (Move place lat lon) =
-    length-append (digits_of 2 1) (digits_of 12 place ++ (digits_of 64 (to_bits binary64 lat) ++ digits_of 64 (to_bits binary64 lon)))
-    ∙ ap (λ n. length (digits_of 2 1) + n) (
-    length-append (digits_of 12 place) (digits_of 64 (to_bits binary64 lat) ++ digits_of 64 (to_bits binary64 lon))
-    ∙ ap (λ n. length (digits_of 12 place) + n) (length-append (digits_of 64 (to_bits binary64 lat)) (digits_of 64 (to_bits binary64 lon)))
-    )
-    ∙ sums4 (length_digits 2 1) (length_digits 12 place) (length_digits 64 (to_bits binary64 lat)) (length_digits 64 (to_bits binary64 lon))
-length_edit (Drop place) = length-append (digits_of 2 2) (digits_of 12 place) ∙ sums2 (length_digits 2 2) (length_digits 12 place)
+length_edit (Add lat lon) = simp (length-append, length_digits)
+length_edit (Move place lat lon) = simp (length-append, length_digits)
+length_edit (Drop place) = simp (length-append, length_digits)
 length_edit TakeBack = length_digits 2 3
 
 pub edits_more : (e : Edit) (es : List Edit) → edits_digits (e ∷ es) ≡ edit_digits e ++ edits_digits es
@@ -123,10 +113,22 @@ length_edits_from es i d h =
     ∙ ap (λ n. n + length (edits_digits (drop (suc i) es))) (length_edit (get_or es i d))
 
 -- one edit more was written
-pub then_edit : (b b1 : List ℕ) (at : ℕ) (e : Edit) (ys : List ℕ) → b1 ≡ with_digits b at (edit_digits e) → with_digits b1 (at + width_of e) ys ≡ with_digits b at (edit_digits e ++ ys)
-then_edit b b1 at e ys h =
-    ap (λ x. with_digits x (at + width_of e) ys) h
-    ∙ sym (with_append b at (edit_digits e) ys ∙ ap (λ k. with_digits (with_digits b at (edit_digits e)) (at + k) ys) (length_edit e))
+pub edit_written : (es : List Edit) (i : ℕ) (d : Edit) (u v : BitWriter) → i < length es → Writes u (edit_digits (get_or es i d)) v → (with_digits v.bytes.items v.at (edits_digits (drop (suc i) es)) ≡ with_digits u.bytes.items u.at (edits_digits (drop i es))) × (v.at + length (edits_digits (drop (suc i) es)) ≡ u.at + length (edits_digits (drop i es)))
+edit_written es i d u v h s =
+    let e = edit_digits (get_or es i d) in
+    let rest = edits_digits (drop (suc i) es) in (
+      ap (λ x. with_digits x v.at rest) s.bytes ∙ ap (λ k. with_digits (with_digits u.bytes.items u.at e) k rest) s.next
+          ∙ sym (with_append u.bytes.items u.at e rest) ∙ ap (with_digits u.bytes.items u.at) (sym (edits_from es i d h)),
+      omega (arith, s.next, length_edit (get_or es i d), length_edits_from es i d h),
+    )
+
+-- the edit that is next lies inside where all do
+pub edit_inside : (es : List Edit) (i : ℕ) (d : Edit) (at start room : ℕ) → i < length es → at + length (edits_digits (drop i es)) ≡ start + length (edits_digits es) → start + length (edits_digits es) ≤ room → at + width_of (get_or es i d) ≤ room
+edit_inside es i d at start room h e inside = omega (arith, length_edits_from es i d h)
+
+pub sign_is : (b : Bool) → from_bool b ≡ signed_bit b
+sign_is true = refl
+sign_is false = refl
 
 pub length-header : (h : Header) → length (header_digits h) ≡ 24
 unfolding header_digits digits_of

@@ -1,5 +1,6 @@
 -- The bits of a file and its fields: bytes in order, the most significant bit of each first, counted from 0. Assumes nothing.
-use Rattle.std.specs.Prelude.{ℕ, zero, suc, ◌+◌, ◌-◌, ◌*◌, ◌/◌, ◌%◌, ◌^◌, cond, List, length, Ok, Err, Result, nat_le, nat_lt, slice_index}
+use Rattle.std.specs.Prelude.{◌≡◌, ℕ, zero, suc, ◌+◌, ◌-◌, ◌*◌, ◌/◌, ◌%◌, ◌^◌, cond, List, length, Ok, Err, Result, nat_le, nat_lt, slice_index, OnOk}
+use Rattle.packed.specs.declared.bits.BitReader.{BitReader}
 use Rattle.packed.specs.declared.faults.BitFault.{BitFault}
 use Rattle.packed.specs.declared.faults.BitFault.TheVariants.{Ends, TooLong}
 
@@ -17,3 +18,7 @@ unfoldable pub field_at : List ℕ → ℕ → ℕ → Result ℕ BitFault
 field_at bytes at width =
     cond (nat_lt 65536 (length bytes)) (Err TooLong)
     (cond (nat_le (at + width) (8 * length bytes)) (Ok (field bytes at width)) (Err (Ends at)))
+
+-- a reader has read so many bits, unless a fault came; it reads the same file
+abbrev pub Moves : {A : Type 0} → BitReader → ℕ → Result A BitFault → BitReader → Type 0
+Moves old width read new = OnOk read (new.at ≡ old.at + width) × (new.bytes ≡ old.bytes)

@@ -1,5 +1,5 @@
 -- What is told of a fault: its layer, its number, the edit (0 is the header) and the bit. Assumes nothing.
-use Rattle.std.specs.Prelude.{ℕ, Result}
+use Rattle.std.specs.Prelude.{ℕ, List, ◌++◌, codes, decimal, Result}
 use Rattle.std.specs.Result.{result_map_both}
 use Rattle.surface.specs.Refusals.{number_of}
 use Rattle.packed.specs.declared.faults.BitFault.TheVariants.{Ends, TooLong}
@@ -11,6 +11,15 @@ use Rattle.packed.specs.declared.faults.SheetFault.TheVariants as sheets
 use Rattle.packed.specs.declared.faults.Layer.{Layer}
 use Rattle.packed.specs.declared.faults.Layer.TheVariants as layers
 use Rattle.packed.specs.declared.faults.Told.{Told}
+
+abbrev pub layer_name : Layer → List ℕ
+layer_name layers.Bits = codes "bits"
+layer_name layers.Field = codes "field"
+layer_name layers.Outline = codes "outline"
+
+-- LAYER NUMBER edit N bit N
+abbrev pub told_text : Told → List ℕ
+told_text t = layer_name t.layer ++ (codes " " ++ (decimal t.number ++ (codes " edit " ++ (decimal t.edit ++ (codes " bit " ++ decimal t.bit)))))
 
 abbrev pub layer_of : FieldFault → Layer
 layer_of (fields.Bits fault) = layers.Bits

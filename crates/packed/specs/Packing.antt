@@ -1,11 +1,12 @@
 -- How a sheet is written: the binary digits of its fields in file order, set into bytes of zeros; and why it may not be written. Assumes nothing.
-use Rattle.std.specs.Prelude.{◌≡◌, ℕ, zero, suc, ◌+◌, ◌-◌, ◌*◌, ◌/◌, ◌%◌, ◌^◌, Bool, true, cond, List, [], ◌∷◌, ◌++◌, length, replicate, Ok, Err, Result, ◌==◌, bit_or, nat_le, slice_index, slice_set, to_bits, Float}
+use Rattle.std.specs.Prelude.{◌≡◌, ℕ, zero, suc, ◌+◌, ◌-◌, ◌*◌, ◌/◌, ◌%◌, ◌^◌, ◌≤◌, Bool, true, cond, List, [], ◌∷◌, codes, ◌++◌, length, vec_len, replicate, Some, None, Ok, Err, Option, Result, ◌==◌, bit_or, nat_le, slice_index, slice_set, to_bits, Float}
 use Rattle.std.specs.Float.{binary64}
 use Rattle.std.specs.Float.Ieee.{fits}
 use Rattle.area.specs.declared.Winding.{Winding}
 use Rattle.area.specs.declared.Winding.TheVariants.{Clockwise, CounterClockwise}
+use Rattle.packed.specs.declared.bits.BitWriter.{BitWriter}
 use Rattle.packed.specs.declared.packs.PackFault.{PackFault}
-use Rattle.packed.specs.declared.packs.PackFault.TheVariants.{Count, Place, TooLong}
+use Rattle.packed.specs.declared.packs.PackFault.TheVariants.{Count, Place, TooLong, NoMemory}
 use Rattle.packed.specs.declared.sheets.SurfaceKind.{SurfaceKind}
 use Rattle.packed.specs.declared.sheets.SurfaceKind.TheVariants.{Wgs84, Plate}
 use Rattle.packed.specs.declared.sheets.Header.{Header}
@@ -63,12 +64,29 @@ unfoldable pub with_digits : List ℕ → ℕ → List ℕ → List ℕ
 with_digits bytes at [] = bytes
 with_digits bytes at (digit ∷ digits) = with_digits (with_bit bytes at digit) (suc at) digits
 
+-- a writer has this many bits left
+abbrev pub HasRoom : BitWriter → ℕ → Type 0
+HasRoom w bits = w.at + bits ≤ 8 * vec_len w.bytes
+
+-- the digits are set from the old writer's place on, and the new writer's place is the bit after the last of them
+pub record Writes (old : BitWriter) (digits : List ℕ) (new : BitWriter) : Type 0 where
+  pub bytes : new.bytes.items ≡ with_digits old.bytes.items old.at digits
+  pub next : new.at ≡ old.at + length digits
+  pub room : vec_len new.bytes ≡ vec_len old.bytes
+
 -- a place takes 12 bits
 abbrev pub place_fits : Edit → Bool
 place_fits (Add lat lon) = true
 place_fits (Move place lat lon) = nat_le place 4095
 place_fits (Drop place) = nat_le place 4095
 place_fits TakeBack = true
+
+-- the place of a moved or dropped point
+abbrev pub place_of : Edit → Option ℕ
+place_of (Add lat lon) = None
+place_of (Move place lat lon) = Some place
+place_of (Drop place) = Some place
+place_of TakeBack = None
 
 -- a float of the language is one of binary64
 abbrev pub IsFloat : Float → Type 0
@@ -109,6 +127,12 @@ packed_sheet header edits =
 abbrev pub ReadsEdits : List ℕ → ℕ → List Edit → Type 0
 ReadsEdits bytes at [] = end_of bytes at ≡ Ok tt
 ReadsEdits bytes at (edit ∷ edits) = (edit_of bytes at ≡ Ok (edit, at + width_of edit)) × ReadsEdits bytes (at + width_of edit) edits
+
+abbrev pub pack_fault_text : PackFault → List ℕ
+pack_fault_text Count = codes "another number of edits"
+pack_fault_text Place = codes "a place above 4095"
+pack_fault_text TooLong = codes "a sheet of more than 65536 bytes"
+pack_fault_text NoMemory = codes "no memory"
 
 -- reading the bytes gives this header and these edits
 abbrev pub ReadsBack : List ℕ → Header → List Edit → Type 0

@@ -1,5 +1,5 @@
 -- A packed sheet: its header, its edits and its end, with the fault that reading them in file order meets first. Assumes nothing.
-use Rattle.std.specs.Prelude.{ℕ, zero, suc, ◌+◌, ◌-◌, ◌*◌, ◌%◌, cond, List, length, Some, None, Ok, Err, Option, Result, ◌==◌, from_bits, nat_lt, Float}
+use Rattle.std.specs.Prelude.{◌≡◌, ℕ, zero, suc, ◌+◌, ◌-◌, ◌*◌, ◌%◌, cond, List, length, Some, None, Ok, Err, Option, Result, ◌==◌, from_bits, nat_lt, Float, MatchResult}
 use Rattle.std.specs.Float.{binary64}
 use Rattle.std.specs.Result.{result_map_both}
 use Rattle.area.specs.declared.Winding.{Winding}
@@ -10,6 +10,8 @@ use Rattle.packed.specs.declared.faults.FieldFault.TheVariants.{Bits, Edition, S
 use Rattle.packed.specs.declared.sheets.SurfaceKind.{SurfaceKind}
 use Rattle.packed.specs.declared.sheets.SurfaceKind.TheVariants.{Wgs84, Plate}
 use Rattle.packed.specs.declared.sheets.Header.{Header}
+use Rattle.packed.specs.declared.sheets.EditKind.{EditKind}
+use Rattle.packed.specs.declared.sheets.EditKind.TheVariants as kinds
 use Rattle.packed.specs.declared.sheets.Edit.{Edit}
 use Rattle.packed.specs.declared.sheets.Edit.TheVariants.{Add, Move, Drop, TakeBack}
 use Rattle.packed.specs.Bits.{bit, field_at}
@@ -18,6 +20,10 @@ use Rattle.packed.specs.Bits.{bit, field_at}
 abbrev pub next : {A B E : Type 0} → Result A E → (A → Result B E) → Result B E
 next (Ok value) more = more value
 next (Err fault) more = Err fault
+
+-- what was read, and then the place after it, is this answer
+abbrev pub Reads : {A E : Type 0} → Result (A × ℕ) E → Result A E → ℕ → Type 0
+Reads answer read after = MatchResult read (λ value. answer ≡ Ok (value, after)) (λ fault. answer ≡ Err fault)
 
 -- the number in a field; a fault of the bits is a fault of the field
 abbrev pub field_in : List ℕ → ℕ → ℕ → Result ℕ FieldFault
@@ -58,6 +64,13 @@ move_at bytes at = next (field_at bytes at 12) (λ place. next (point_at bytes (
 
 unfoldable pub drop_at : List ℕ → ℕ → Result (Edit × ℕ) BitFault
 drop_at bytes at = next (field_at bytes at 12) (λ place. Ok (Drop place, at + 12))
+
+-- the two bits of a kind
+abbrev pub kind_bits : EditKind → ℕ
+kind_bits kinds.Add = 0
+kind_bits kinds.Move = 1
+kind_bits kinds.Drop = 2
+kind_bits kinds.TakeBack = 3
 
 abbrev pub of_kind : List ℕ → ℕ → ℕ → Result (Edit × ℕ) BitFault
 of_kind bytes at kind =

@@ -7,5 +7,5 @@ mod packs;
 mod sheets;
 
 pub use faults::{BitFault, EditFault, FieldFault, Layer, SheetFault, Told, in_edit};
-pub use packs::{PackFault, pack};
-pub use sheets::{Edit, Header, SurfaceKind, read_edit, read_end, read_header};
+pub use packs::{MOST_PLACE, PackFault, pack};
+pub use sheets::{Edit, HEADER_BITS, Header, SurfaceKind, read_edit, read_end, read_header};

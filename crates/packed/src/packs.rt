@@ -1,17 +1,23 @@
 // Writing a packed sheet.
-ghost use Rattle.std.specs.Prelude.{◌≡◌, ◌+◌, ◌*◌, ◌<◌, ◌≤◌, ◌⊎◌, ◌++◌, length, replicate, IfOk, Ok, Err, vec_len, MatchResult, OnOk};
+ghost use Rattle.std.specs.Prelude.{◌≡◌, ◌+◌, ◌*◌, ◌<◌, ◌≤◌, ◌⊎◌, [], ◌∷◌, length, replicate, IfOk, Some, Ok, Err, vec_len, MatchResult, OnOk};
 ghost use Rattle.std.specs.List.{AllByRecursion};
 ghost use Rattle.packed.specs.declared.packs.PackFault.TheVariants.{NoMemory};
-ghost use Rattle.packed.specs.Packing.{with_bit, with_digits, digits_of, point_digits, edit_digits, edits_digits, header_digits, width_of, packed_end, place_fits, FloatsFit, Fitting, packed_sheet, ReadsBack, winding_bit, signed_bit, surface_bits};
+ghost use Rattle.packed.specs.Packing.{digits_of, point_digits, edit_digits, edits_digits, header_digits, width_of, place_of, packed_end, place_fits, FloatsFit, Fitting, packed_sheet, ReadsBack, winding_bit, HasRoom, Writes, pack_fault_text};
 
-use crate::sheets::EDITION;
-use crate::{Edit, Header, SurfaceKind};
+use crate::bits::{BitWriter, MOST_BITS, MOST_BYTES};
+use crate::sheets::{
+    BIT_WIDTH, COUNT_WIDTH, EDITION, EDITION_WIDTH, EditKind, FLOAT_WIDTH, KIND_WIDTH, PLACE_WIDTH,
+    SURFACE_WIDTH,
+};
+use crate::{Edit, HEADER_BITS, Header};
 use area::Winding;
 use std::alloc::{AllocError, Global};
+use std::error::Error;
+use std::fmt;
 use std::num::f64_to_bits_with_nan;
 
 // Why a sheet is not packed.
-#[derive(Clone, Copy, PartialEq, Eq, Debug)]
+#[derive(Clone, Copy, PartialEq, Eq, Debug, Hash)]
 pub enum PackFault {
     // the header has another number of edits
     Count,
@@ -23,6 +29,21 @@ pub enum PackFault {
     NoMemory,
 }
 
+impl fmt::Display for PackFault {
+    ghost output = { λ fault. Some (pack_fault_text fault) };
+
+    fn fmt<W: fmt::Write>(&self, f: &mut fmt::Formatter<W>) -> fmt::Result {
+        f.write_str(match self {
+            PackFault::Count => "another number of edits",
+            PackFault::Place => "a place above 4095",
+            PackFault::TooLong => "a sheet of more than 65536 bytes",
+            PackFault::NoMemory => "no memory",
+        })
+    }
+}
+
+impl Error for PackFault {}
+
 impl From<AllocError> for PackFault {
     ghost from_gives = { λ _ r. r ≡ NoMemory };
 
@@ -31,13 +52,10 @@ impl From<AllocError> for PackFault {
     }
 }
 
-// The most bits that a file may have.
-const MOST_BITS: usize = 524288;
+// The greatest place that its field holds.
+pub const MOST_PLACE: u16 = (1 << PLACE_WIDTH) - 1;
 
-// The bit at which a header ends.
-const HEADER_BITS: usize = 24;
-
-// The bits of a winding, of a sign and of a surface.
+// The bit of a winding. No `From` of `area`: the number is the file's, and `area` knows no file.
 fn winding_bit(winding: Winding) -> u64
     ensures { result ≡ winding_bit winding }
 {
@@ -47,66 +65,50 @@ fn winding_bit(winding: Winding) -> u64
     }
 }
 
-fn signed_bit(signed: bool) -> u64
-    ensures { result ≡ signed_bit signed }
-{
-    if signed { 1 } else { 0 }
-}
-
-fn surface_bits(surface: SurfaceKind) -> u64
-    ensures { result ≡ surface_bits surface }
-{
-    match surface {
-        SurfaceKind::Wgs84 => 0,
-        SurfaceKind::Plate => 1,
+impl Edit {
+    // The place of a moved or dropped point.
+    fn place(self) -> Option<u16>
+        ensures { result ≡ place_of self }
+    {
+        match self {
+            Edit::Move { place, .. } | Edit::Drop { place } => Some(place),
+            Edit::Add { .. } | Edit::TakeBack => None,
+        }
     }
-}
 
-// How many bits an edit takes.
-fn width_of(edit: Edit) -> usize
-    ensures { result ≡ width_of edit }
-{
-    match edit {
-        Edit::Add { lat: _, lon: _ } => 130,
-        Edit::Move {
-            place: _,
-            lat: _,
-            lon: _,
-        } => 142,
-        Edit::Drop { place: _ } => 14,
-        Edit::TakeBack => 2,
+    // How many bits the edit takes.
+    fn width(self) -> usize
+        ensures { result ≡ width_of self }
+    {
+        match self {
+            Edit::Add { .. } => KIND_WIDTH + 2 * FLOAT_WIDTH,
+            Edit::Move { .. } => KIND_WIDTH + PLACE_WIDTH + 2 * FLOAT_WIDTH,
+            Edit::Drop { .. } => KIND_WIDTH + PLACE_WIDTH,
+            Edit::TakeBack => KIND_WIDTH,
+        }
     }
-}
 
-// Whether an edit's place fits its field.
-fn place_fits(edit: Edit) -> bool
-    ensures value { result ≡ place_fits edit }
-    ensures floats { FloatsFit edit }
-{
-    match edit {
-        Edit::Add { lat: _, lon: _ } => true,
-        Edit::Move {
-            place,
-            lat: _,
-            lon: _,
-        } => place <= 4095,
-        Edit::Drop { place } => place <= 4095,
-        Edit::TakeBack => true,
+    // Whether the edit's place fits its field; its floats are always the language's.
+    fn fits(self) -> bool
+        ensures value { result ≡ place_fits self }
+        ensures floats { FloatsFit self }
+    {
+        self.place().is_none_or(|place| place <= MOST_PLACE)
     }
 }
 
 // The bit at which the edits end.
 fn edits_end(edits: &[Edit]) -> Result<usize, PackFault>
-    ensures end { result ≡ packed_end 24 edits.now }
-    ensures near { IfOk result (λ end. (end ≤ 524288) × (end ≡ 24 + length (edits_digits edits.now))) }
+    ensures end { result ≡ packed_end HEADER_BITS edits.now }
+    ensures near { IfOk result (λ end. (end ≤ MOST_BITS) × (end ≡ HEADER_BITS + length (edits_digits edits.now))) }
     ensures fitting { OnOk result (AllByRecursion Fitting edits.now) }
 {
     let mut at = HEADER_BITS;
     for edit in edits {
-        if !place_fits(*edit) {
+        if !edit.fits() {
             return Err(PackFault::Place);
         }
-        at += width_of(*edit);
+        at += edit.width();
         if at > MOST_BITS {
             return Err(PackFault::TooLong);
         }
@@ -114,111 +116,93 @@ fn edits_end(edits: &[Edit]) -> Result<usize, PackFault>
     Ok(at)
 }
 
-// Sets a digit at bit `at`.
-fn put_bit(bytes: &mut [u8], at: usize, digit: u8)
-    requires inside { at < 8 * length bytes.old }
-    requires binary { digit < 2 }
-    ensures { bytes.new ≡ with_bit bytes.old at digit }
-{
-    bytes[at / 8] |= digit << (7 - at % 8);
-}
-
-// Sets the last `width` digits of a number from bit `at` on.
-fn put_field(bytes: &mut [u8], at: usize, width: usize, number: u64)
-    requires inside { at + width ≤ 8 * length bytes.old }
-    requires short { length bytes.old ≤ 65536 }
-    requires small { width ≤ 64 }
-    ensures { bytes.new ≡ with_digits bytes.old at (digits_of width number) }
-{
-    for i in 0..width {
-        put_bit(bytes, at + i, ((number >> (width - 1 - i)) % 2) as u8);
+impl BitWriter {
+    // So many bytes, all zero.
+    fn blank(heap: Global, count: usize) -> Result<BitWriter, AllocError>
+        requires { count ≤ MOST_BYTES }
+        ensures { IfOk result (λ w. (w.bytes.items ≡ replicate count 0) × (w.at ≡ 0) × (vec_len w.bytes ≡ count)) }
+    {
+        Ok(BitWriter {
+            bytes: vec![in heap; 0; count]?,
+            at: 0,
+        })
     }
-}
 
-// Sets a latitude and a longitude from bit `at` on.
-fn put_point(bytes: &mut [u8], at: usize, lat: f64, lon: f64)
-    requires inside { at + 128 ≤ 8 * length bytes.old }
-    requires short { length bytes.old ≤ 65536 }
-    ensures { bytes.new ≡ with_digits bytes.old at (point_digits lat lon) }
-{
-    put_field(bytes, at, 64, f64_to_bits_with_nan(lat));
-    put_field(bytes, at + 64, 64, f64_to_bits_with_nan(lon));
-}
-
-// Sets an edit from bit `at` on.
-fn put_edit(bytes: &mut [u8], at: usize, edit: Edit)
-    requires inside { at + width_of edit ≤ 8 * length bytes.old }
-    requires short { length bytes.old ≤ 65536 }
-    ensures { bytes.new ≡ with_digits bytes.old at (edit_digits edit) }
-{
-    match edit {
-        Edit::Add { lat, lon } => {
-            put_field(bytes, at, 2, 0);
-            put_point(bytes, at + 2, lat, lon);
-        }
-        Edit::Move { place, lat, lon } => {
-            put_field(bytes, at, 2, 1);
-            put_field(bytes, at + 2, 12, u64::from(place));
-            put_point(bytes, at + 14, lat, lon);
-        }
-        Edit::Drop { place } => {
-            put_field(bytes, at, 2, 2);
-            put_field(bytes, at + 2, 12, u64::from(place));
-        }
-        Edit::TakeBack => put_field(bytes, at, 2, 3),
+    // Sets the next digit.
+    fn digit(&mut self, digit: u8)
+        requires room { HasRoom self.old 1 }
+        requires binary { digit < 2 }
+        ensures { Writes self.old (digit ∷ []) self.new }
+    {
+        self.bytes[self.at / 8] |= digit << (7 - self.at % 8);
+        self.at += 1;
     }
-}
 
-// Sets the edits, each where the one before it ends.
-fn put_edits(bytes: &mut [u8], edits: &[Edit])
-    requires inside { 24 + length (edits_digits edits.now) ≤ 8 * length bytes.old }
-    requires short { length bytes.old ≤ 65536 }
-    ensures { bytes.new ≡ with_digits bytes.old 24 (edits_digits edits.now) }
-{
-    let mut at = HEADER_BITS;
-    for edit in edits {
-        put_edit(bytes, at, *edit);
-        at += width_of(*edit);
+    // Sets the last `width` digits of a number.
+    fn field(&mut self, width: usize, number: u64)
+        requires room { HasRoom self.old width }
+        requires small { width ≤ 64 }
+        ensures writes { Writes self.old (digits_of width number) self.new }
+        ensures next { self.new.at ≡ self.old.at + width }
+    {
+        for i in (0..width).rev() {
+            self.digit(((number >> i) % 2) as u8);
+        }
     }
-}
 
-// Sets the header.
-fn put_header(bytes: &mut [u8], header: Header)
-    requires inside { 24 ≤ 8 * length bytes.old }
-    requires short { length bytes.old ≤ 65536 }
-    ensures { bytes.new ≡ with_digits bytes.old 0 (header_digits header) }
-{
-    put_field(bytes, 0, 4, EDITION);
-    put_field(bytes, 4, 1, winding_bit(header.winding));
-    put_field(bytes, 5, 1, signed_bit(header.signed));
-    put_field(bytes, 6, 2, surface_bits(header.surface));
-    put_field(bytes, 8, 16, u64::from(header.edits));
-}
+    // Sets a latitude and a longitude: two fields of the file, as in `Edit`.
+    fn point(&mut self, lat: f64, lon: f64)
+        requires { HasRoom self.old (2 * FLOAT_WIDTH) }
+        ensures { Writes self.old (point_digits lat lon) self.new }
+    {
+        self.field(FLOAT_WIDTH, f64_to_bits_with_nan(lat));
+        self.field(FLOAT_WIDTH, f64_to_bits_with_nan(lon));
+    }
 
-// The sheet in bytes that are all zero.
-fn put_sheet(bytes: &mut [u8], header: Header, edits: &[Edit])
-    requires inside { 24 + length (edits_digits edits.now) ≤ 8 * length bytes.old }
-    requires short { length bytes.old ≤ 65536 }
-    ensures { bytes.new ≡ with_digits bytes.old 0 (header_digits header ++ edits_digits edits.now) }
-{
-    put_header(bytes, header);
-    put_edits(bytes, edits);
-}
+    // Sets an edit.
+    fn edit(&mut self, edit: Edit)
+        requires { HasRoom self.old (width_of edit) }
+        ensures { Writes self.old (edit_digits edit) self.new }
+    {
+        match edit {
+            Edit::Add { lat, lon } => {
+                self.field(KIND_WIDTH, EditKind::Add.into());
+                self.point(lat, lon);
+            }
+            Edit::Move { place, lat, lon } => {
+                self.field(KIND_WIDTH, EditKind::Move.into());
+                self.field(PLACE_WIDTH, place.into());
+                self.point(lat, lon);
+            }
+            Edit::Drop { place } => {
+                self.field(KIND_WIDTH, EditKind::Drop.into());
+                self.field(PLACE_WIDTH, place.into());
+            }
+            Edit::TakeBack => self.field(KIND_WIDTH, EditKind::TakeBack.into()),
+        }
+    }
 
-// So many bytes that are all zero.
-fn blank(heap: Global, count: usize) -> Result<Vec<u8>, AllocError>
-    ensures { IfOk result (λ v. (v.items ≡ replicate count 0) × (vec_len v ≡ count)) }
-{
-    vec![in heap; 0; count]
-}
+    // Sets the edits, each where the one before it ends.
+    fn edits(&mut self, edits: &[Edit])
+        requires { HasRoom self.old (length (edits_digits edits.now)) }
+        ensures { Writes self.old (edits_digits edits.now) self.new }
+    {
+        for edit in edits {
+            self.edit(*edit);
+        }
+    }
 
-// The sheet in the bytes of a vector that are all zero.
-fn fill_sheet(bytes: &mut Vec<u8>, header: Header, edits: &[Edit])
-    requires inside { 24 + length (edits_digits edits.now) ≤ 8 * vec_len bytes.old }
-    requires short { vec_len bytes.old ≤ 65536 }
-    ensures { bytes.new.items ≡ with_digits bytes.old.items 0 (header_digits header ++ edits_digits edits.now) }
-{
-    put_sheet(bytes.as_mut_slice(), header, edits);
+    // Sets the header.
+    fn header(&mut self, header: Header)
+        requires { HasRoom self.old HEADER_BITS }
+        ensures { Writes self.old (header_digits header) self.new }
+    {
+        self.field(EDITION_WIDTH, EDITION);
+        self.field(BIT_WIDTH, winding_bit(header.winding));
+        self.field(BIT_WIDTH, header.signed.into());
+        self.field(SURFACE_WIDTH, header.surface.into());
+        self.field(COUNT_WIDTH, header.edits.into());
+    }
 }
 
 // The packed sheet of a header and its edits.
@@ -230,7 +214,9 @@ pub fn pack(heap: Global, header: Header, edits: &[Edit]) -> Result<Vec<u8>, Pac
         return Err(PackFault::Count);
     }
     let end = edits_end(edits)?;
-    let mut bytes = blank(heap, (end + 7) / 8)?;
-    fill_sheet(&mut bytes, header, edits);
+    let mut writer = BitWriter::blank(heap, end.div_ceil(8))?;
+    writer.header(header);
+    writer.edits(edits);
+    let BitWriter { bytes, .. } = writer;
     Ok(bytes)
 }

@@ -1,46 +1,34 @@
 // What a line of the input says.
-ghost use Rattle.std.specs.Prelude.{◌≡◌};
-ghost use Rattle.planimeter.specs.Lines.{Says, entry_from};
+ghost use Rattle.planimeter.specs.Lines.{Says};
 
 use polygon::Point;
-use text::{decimal, split_word};
+use script::row;
+use std::error::Error;
+use std::fmt;
 
-#[derive(Clone, Copy)]
-pub enum Entry {
-    // a blank line, or one that begins with #
-    Remark,
-    // a line that is not two decimal numbers
-    Unreadable,
-    // a latitude and a longitude
-    Place(Point),
-}
+// A line that is not two decimal numbers.
+#[derive(Clone, Copy, PartialEq, Eq, Hash, Debug)]
+pub struct NotAPoint;
 
-// The point of two numbers that stand alone on a line.
-fn entry_from(lat: Option<f64>, lon: Option<f64>, alone: bool) -> Entry
-    ensures { result ≡ entry_from lat lon alone }
-{
-    match (lat, lon) {
-        (Some(lat), Some(lon)) => {
-            if alone {
-                Entry::Place(Point { lat, lon })
-            } else {
-                Entry::Unreadable
-            }
-        }
-        _ => Entry::Unreadable,
+impl fmt::Display for NotAPoint {
+    ghost use Rattle.std.specs.Prelude.{Some, codes};
+
+    ghost output = { λ _. Some (codes "not a point") };
+
+    fn fmt<W: fmt::Write>(&self, f: &mut fmt::Formatter<W>) -> fmt::Result {
+        write!(f, "not a point")
     }
 }
 
-// What a line says.
-pub fn read(line: &str) -> Entry
+impl Error for NotAPoint {}
+
+// The latitude and the longitude of a line, if it is not blank and does not begin with #.
+pub fn read(line: &str) -> Result<Option<Point>, NotAPoint>
     ensures { Says line.now result }
 {
-    let (lat, after) = split_word(line);
-    match lat.as_bytes() {
-        [] | [b'#', ..] => return Entry::Remark,
-        _ => {}
-    }
-    let (lon, rest) = split_word(after);
-    let (more, _) = split_word(rest);
-    entry_from(decimal(lat), decimal(lon), more.is_empty())
+    let Some(numbers) = row::<2, NotAPoint>(line, NotAPoint)? else {
+        return Ok(None);
+    };
+    let [lat, lon] = numbers;
+    Ok(Some(Point { lat, lon }))
 }

@@ -10,69 +10,62 @@ mod lines;
 mod options;
 mod steps;
 
-use anyhow::anyhow;
+use anyhow::{Context, anyhow};
 use functions::SeriesSet;
 use geodesic::Geodesic;
 use lines::read;
-use options::{Awaited, Flag, Ground, Options};
+use options::{Flag, Ground, Options};
 use polygon::{Figures, PolygonArea};
-use std::env;
-use std::io::Read;
-use steps::{Step, offer};
+use std::{env, fmt, io};
+use steps::offer;
 use surface::{Plate, Refusal, Surface};
-use text::{Pattern, decimal, split_line};
+use text::{Pattern, decimal};
 
-fn number(word: &str) -> anyhow::Result<f64> {
-    match decimal(word) {
-        Some(x) => Ok(x),
-        None => Err(anyhow!("-k wants a scale, -e a radius and a flattening")),
-    }
+// The number that a flag wants as its next word.
+fn wanted(word: Option<String>) -> anyhow::Result<f64> {
+    word.and_then(|word| decimal(word.as_str()))
+        .context("-k wants a scale, -e a radius and a flattening")
 }
 
 // The options that the command line switches.
 fn read_options(rt: &HostRuntime) -> anyhow::Result<Options> {
-    let mut options = Options::usual();
-    let mut awaited = Awaited::Flag;
-    for word in env::args(rt)?.skip(1) {
-        let word = word.as_str();
-        match awaited {
-            Awaited::Flag => {
-                let Some(flag) = Flag::named(word) else {
-                    return Err(anyhow!("usage: planimeter [-r] [-s] [-e A F] [-k K] < outline"));
-                };
-                options = options.switched(flag);
-                awaited = flag.awaited();
+    let mut options = Options::default();
+    let mut words = env::args(rt)?;
+    words.next();
+    while let Some(word) = words.next() {
+        let flag: Flag = word.as_str().parse()?;
+        options = match flag {
+            Flag::Reverse | Flag::Sign => options.switched(flag),
+            Flag::Scale => options.drawn_on(Ground::Plate(wanted(words.next())?)),
+            Flag::Shape => {
+                let (a, f) = (wanted(words.next())?, wanted(words.next())?);
+                options.drawn_on(Ground::Ellipsoid(a, f))
             }
-            Awaited::Scale => {
-                options = options.drawn_on(Ground::Plate(number(word)?));
-                awaited = Awaited::Flag;
-            }
-            Awaited::Radius => awaited = Awaited::Flattening(number(word)?),
-            Awaited::Flattening(a) => {
-                options = options.drawn_on(Ground::Ellipsoid(a, number(word)?));
-                awaited = Awaited::Flag;
-            }
-        }
+        };
     }
-    match awaited {
-        Awaited::Flag => Ok(options),
-        _ => Err(anyhow!("-k wants a scale, -e a radius and a flattening")),
+    Ok(options)
+}
+
+// Figures as they are printed: with the bit patterns of the perimeter and the area. `edits` prints
+// each of these lines after a name.
+#[derive(Clone, Copy, PartialEq, Debug)]
+struct Told(Figures);
+
+impl fmt::Display for Told {
+    fn fmt<W: fmt::Write>(&self, f: &mut fmt::Formatter<W>) -> fmt::Result {
+        let Figures {
+            perimeter,
+            area,
+            count,
+        } = self.0;
+        writeln!(f, "points {count}")?;
+        writeln!(f, "perimeter {perimeter} {}", Pattern::from(perimeter))?;
+        write!(f, "area {area} {}", Pattern::from(area))
     }
 }
 
-fn print_figures(rt: &HostRuntime, figures: Figures) -> anyhow::Result<()> {
-    let Figures {
-        perimeter,
-        area,
-        count,
-    } = figures;
-    println!(rt; "points {count}")?;
-    println!(rt; "perimeter {perimeter} {}", Pattern(perimeter))?;
-    println!(rt; "area {area} {}", Pattern(area))?;
-    Ok(())
-}
-
-// Feeds the polygon line by line, and prints what became of each.
+// Feeds the polygon line by line, and prints what became of each. Surface and winding stay, told here
+// as in `offer`.
 fn trace<S: Surface>(
     rt: &HostRuntime,
     polygon: &mut PolygonArea<S>,
@@ -82,24 +75,17 @@ fn trace<S: Surface>(
     ensures surface { polygon.new.surface ≡ polygon.old.surface }
     ensures winding { polygon.new.winding ≡ polygon.old.winding }
 {
-    let mut number: usize = 0;
     let mut points: usize = 0;
-    let mut rest = text;
-    while !rest.is_empty() {
-        let (line, after) = split_line(rest);
-        rest = after;
-        number += 1;
+    // Numbered from 0: a zip with 1.. ends where the numbers end, and need not meet each line.
+    for (index, line) in text::lines(text).enumerate() {
+        let number = index + 1;
         match offer(polygon, read(line)) {
-            Step::Skipped => {}
-            Step::NotAPoint => println!(rt; "line {number}: not a point")?,
-            Step::Added => {
+            Ok(None) => {}
+            Ok(Some(_)) => {
                 points += 1;
                 println!(rt; "line {number}: point {points} added")?;
             }
-            Step::Refused(refusal) => {
-                let why = refusal.number();
-                println!(rt; "line {number}: refused {why}")?;
-            }
+            Err(fault) => println!(rt; "line {number}: {fault}")?,
         }
     }
     Ok(())
@@ -114,28 +100,27 @@ fn measure<S: Surface + Drop>(
 ) -> anyhow::Result<()> {
     let mut polygon = PolygonArea::new(surface, options.winding);
     trace(rt, &mut polygon, text)?;
-    print_figures(rt, polygon.compute(options.signed))
+    println!(rt; "{}", Told(polygon.compute(options.signed)))?;
+    Ok(())
 }
 
-// Tells that the ground is refused.
-fn refuse(rt: &HostRuntime, refusal: Refusal) -> anyhow::Result<()> {
-    let why = refusal.number();
-    Err(anyhow!(format!(in rt.alloc(); "ground refused {why}")?))
+// That the ground is refused.
+fn refused(refusal: Refusal) -> anyhow::Error {
+    anyhow!("ground refused {refusal}")
 }
 
 fn run(rt: &HostRuntime) -> anyhow::Result<()> {
     let options = read_options(rt)?;
-    let mut text = String::new(rt.alloc());
-    rt.stdin().read_to_string(&mut text)?;
+    let text = io::read_to_string(rt.alloc(), rt.stdin())?;
     match options.surface {
-        Ground::Ellipsoid(a, f) => match Geodesic::new(SeriesSet, a, f) {
-            Ok(geodesic) => measure(rt, geodesic, options, text.as_str()),
-            Err(refusal) => refuse(rt, refusal),
-        },
-        Ground::Plate(scale) => match Plate::new(scale) {
-            Ok(plate) => measure(rt, plate, options, text.as_str()),
-            Err(refusal) => refuse(rt, refusal),
-        },
+        Ground::Ellipsoid(a, f) => {
+            let geodesic = Geodesic::new(SeriesSet, a, f).map_err(refused)?;
+            measure(rt, geodesic, options, text.as_str())
+        }
+        Ground::Plate(scale) => {
+            let plate = Plate::new(scale).map_err(refused)?;
+            measure(rt, plate, options, text.as_str())
+        }
     }
 }
 

@@ -1,11 +1,14 @@
 // The options of the command line, after those of GeographicLib's Planimeter.
 ghost use Rattle.std.specs.Prelude.{◌≡◌};
-ghost use Rattle.planimeter.specs.Options.{usual, switched, drawn_on, awaited, Named};
+ghost use Rattle.planimeter.specs.Options.{usual, switched, drawn_on, ReadsFlag};
 
 use area::Winding;
+use ellipsoid::shape::{WGS84_A, WGS84_F};
+use std::str::FromStr;
+use thiserror::Error;
 
 // What the outline is drawn on.
-#[derive(Clone, Copy)]
+#[derive(Clone, Copy, PartialEq, Debug)]
 pub enum Ground {
     // an ellipsoid by its equatorial radius and its flattening
     Ellipsoid(f64, f64),
@@ -13,7 +16,7 @@ pub enum Ground {
     Plate(f64),
 }
 
-#[derive(Clone, Copy)]
+#[derive(Clone, Copy, PartialEq, Eq, Hash, Debug)]
 pub enum Flag {
     // -r: the other sense of traversal counts as positive
     Reverse,
@@ -25,73 +28,58 @@ pub enum Flag {
     Shape,
 }
 
-// What the next word of the command line is to be.
-#[derive(Clone, Copy)]
-pub enum Awaited {
-    Flag,
-    Scale,
-    Radius,
-    // after this radius
-    Flattening(f64),
-}
+// A word that is no flag; it tells how this program is called.
+#[derive(Clone, Copy, PartialEq, Eq, Hash, Debug, Error)]
+#[error("usage: planimeter [-r] [-s] [-e A F] [-k K] < outline")]
+pub struct NotAFlag;
 
-impl Flag {
-    // The flag that a word names.
-    pub fn named(word: &str) -> Option<Flag>
-        ensures { Named word.now result }
-    {
+impl FromStr for Flag {
+    type Err = NotAFlag;
+
+    ghost from_str_gives = { ReadsFlag };
+
+    fn from_str(word: &str) -> Result<Flag, NotAFlag> {
         match word {
-            "-r" => Some(Flag::Reverse),
-            "-s" => Some(Flag::Sign),
-            "-k" => Some(Flag::Scale),
-            "-e" => Some(Flag::Shape),
-            _ => None,
-        }
-    }
-
-    // What follows the flag.
-    pub fn awaited(self) -> Awaited
-        ensures { result ≡ awaited self }
-    {
-        match self {
-            Flag::Reverse | Flag::Sign => Awaited::Flag,
-            Flag::Scale => Awaited::Scale,
-            Flag::Shape => Awaited::Radius,
+            "-r" => Ok(Flag::Reverse),
+            "-s" => Ok(Flag::Sign),
+            "-k" => Ok(Flag::Scale),
+            "-e" => Ok(Flag::Shape),
+            _ => Err(NotAFlag),
         }
     }
 }
 
-#[derive(Clone, Copy)]
+// Winding and sign are apart, since a flag of its own switches each.
+#[derive(Clone, Copy, PartialEq, Debug)]
 pub struct Options {
     pub surface: Ground,
     pub winding: Winding,
     pub signed: bool,
 }
 
-impl Options {
-    // The WGS84 ellipsoid, counter-clockwise positive, with a sign.
-    pub fn usual() -> Options
-        ensures { result ≡ usual }
-    {
+// The WGS84 ellipsoid, counter-clockwise positive, with a sign.
+impl Default for Options {
+    ghost is_default = { λ options. options ≡ usual };
+
+    fn default() -> Options {
         Options {
-            surface: Ground::Ellipsoid(6378137.0, 0.0033528106647474805),
+            surface: Ground::Ellipsoid(WGS84_A, WGS84_F),
             winding: Winding::CounterClockwise,
             signed: true,
         }
     }
+}
 
-    // With one flag more; a ground waits for its words.
+impl Options {
+    // With one flag more; a flag that waits for its words switches nothing.
     pub fn switched(self, flag: Flag) -> Options
         ensures { result ≡ switched self flag }
     {
         match flag {
-            Flag::Reverse => {
-                let winding = match self.winding {
-                    Winding::Clockwise => Winding::CounterClockwise,
-                    Winding::CounterClockwise => Winding::Clockwise,
-                };
-                Options { winding, ..self }
-            }
+            Flag::Reverse => Options {
+                winding: self.winding.reversed(),
+                ..self
+            },
             Flag::Sign => Options {
                 signed: !self.signed,
                 ..self

@@ -2,31 +2,25 @@
 ghost use Rattle.std.specs.Prelude.{◌≡◌};
 ghost use Rattle.planimeter.specs.Steps.{step_at, traverse_after};
 
-use crate::lines::Entry;
-use polygon::PolygonArea;
-use surface::{Refusal, Surface};
+use crate::lines::NotAPoint;
+use polygon::{Point, PolygonArea};
+use script::LineFault;
+use surface::Surface;
 
-#[derive(Clone, Copy)]
-pub enum Step {
-    Skipped,
-    NotAPoint,
-    Added,
-    Refused(Refusal),
-}
-
-// Offers what a line says to the polygon.
-pub fn offer<S: Surface>(polygon: &mut PolygonArea<S>, entry: Entry) -> Step
-    ensures answer { result ≡ step_at polygon.old.traverse.num entry }
-    ensures traverse { polygon.new.traverse ≡ traverse_after (S.edges polygon.old.surface) polygon.old.traverse entry }
+// Offers the point of a line to the polygon, and answers the point that it took. That surface and
+// winding stay is told of the old and the new polygon; an invariant tells of one value.
+pub fn offer<S: Surface>(
+    polygon: &mut PolygonArea<S>,
+    line: Result<Option<Point>, NotAPoint>,
+) -> Result<Option<Point>, LineFault<NotAPoint>>
+    ensures answer { result ≡ step_at polygon.old.traverse.num line }
+    ensures traverse { polygon.new.traverse ≡ traverse_after (S.edges polygon.old.surface) polygon.old.traverse line }
     ensures surface { polygon.new.surface ≡ polygon.old.surface }
     ensures winding { polygon.new.winding ≡ polygon.old.winding }
 {
-    match entry {
-        Entry::Remark => Step::Skipped,
-        Entry::Unreadable => Step::NotAPoint,
-        Entry::Place(point) => match polygon.add_point(point.lat, point.lon) {
-            Ok(()) => Step::Added,
-            Err(refusal) => Step::Refused(refusal),
-        },
-    }
+    let Some(point) = line.map_err(LineFault::Unreadable)? else {
+        return Ok(None);
+    };
+    polygon.add_point(point.lat, point.lon)?;
+    Ok(Some(point))
 }

@@ -1,7 +1,10 @@
 -- What one more point does to a traverse, and that the crossings stay few enough for 64 bits: each point adds one at most.
-use Rattle.std.proofs.Common.{◌≡◌, ℕ, ◌+◌, ◌<◌, ◌≤◌, true, false, eqb, ℤ, pos, negsuc, ◌+ℤ◌, nat_abs, arith, w64, SFits, to_z, of_z}
-use Rattle.std.proofs.lemmas.Int.{ints, to_z-of_z}
+use Rattle.std.proofs.Common.{◌≡◌, ℕ, ◌+◌, ◌%◌, ◌<◌, ◌≤◌, true, false, eqb, ℤ, pos, negsuc, ◌+ℤ◌, ◌*ℤ◌, nat_abs, ap, arith, w64, SFits, to_z, of_z}
+use Rattle.std.specs.Prelude.{◌==◌}
+use Rattle.std.specs.Int.RustNames.{int_div, int_rem}
+use Rattle.std.proofs.lemmas.Int.{ints, to_z-of_z, quot-rem}
 use Rattle.std.proofs.lemmas.Bool.Decides.{nat_tests}
+use Rattle.area.specs.Reduction.{is_odd}
 use Rattle.polygon.specs.declared.Point.{Point}
 use Rattle.polygon.specs.declared.Traverse.{Traverse}
 use Rattle.polygon.specs.Polygons.{Solve}
@@ -27,3 +30,12 @@ few_read z n h l = to_z-of_z w64 z (few_fit z n h l)
 
 pub few_more : (z k : ℤ) (n : ℕ) → nat_abs z ≤ n → nat_abs k ≤ 1 → nat_abs (z +ℤ k) ≤ n + 1
 few_more z k n h l = omega (arith, ints)
+
+-- ---- parity
+
+half_off : (q r k z : ℤ) → q *ℤ pos 2 +ℤ r ≡ z → nat_abs (r +ℤ k) % 2 ≡ nat_abs (z +ℤ k) % 2
+half_off q r k z h = omega (arith, ints)
+
+-- a remainder of 2 in the place of the number leaves the sum odd or even as it is
+pub same_parity : (z k : ℤ) → is_odd (int_rem z (pos 2) +ℤ k) ≡ is_odd (z +ℤ k)
+same_parity z k = ap (λ n. n == 1) (half_off (int_div z (pos 2)) (int_rem z (pos 2)) k z (quot-rem z (pos 2)))

@@ -2,6 +2,7 @@
 use Rattle.std.specs.Prelude.{ℕ, ◌+◌, Bool, cond, List, [], ◌∷◌, pos, ◌+ℤ◌, Some, None, Option, ◌==◌, Float}
 use Rattle.floats.specs.Arithmetic.{◌⊕◌}
 use Rattle.geomath.specs.Angles.{zero, accepts}
+use Rattle.surface.specs.declared.Edge.{Edge}
 use Rattle.surface.specs.declared.refusals.Refusal.{Refusal}
 use Rattle.surface.specs.declared.refusals.Refusal.TheVariants.{Full, Point as PointOff}
 use Rattle.area.specs.declared.Winding.{Winding}
@@ -67,10 +68,14 @@ unless (Some e) t u = t
 abbrev pub offered : Solve → Traverse → Float → Float → Traverse
 offered edge t lat lon = unless (point_refusal t.num lat lon) t (fed edge t (record { lat = lat; lon = lon }))
 
+-- the edge from the latest point to the first
+abbrev pub closing : Solve → Traverse → Edge
+closing edge t = solved edge (record { from = t.latest; to = t.initial })
+
 -- the figures once the closing edge is added
 abbrev pub closed : Solve → Float → Winding → Bool → Traverse → Figures
 closed edge whole winding sign t =
-    let e = solved edge (record { from = t.latest; to = t.initial }) in
+    let e = closing edge t in
     let crossings = t.crossings +ℤ transit_of t.latest.lon t.initial.lon in
     record {
       perimeter = t.perimetersum ⊕ e.s12;

@@ -5,7 +5,7 @@ ghost use Rattle.polygon.specs.declared.Point.{Point};
 ghost use Rattle.polygon.specs.Examples.{Examples};
 ghost use Rattle.polygon.specs.Laws.{PolygonLaw};
 ghost use Rattle.polygon.specs.Polygons.{figures_of};
-ghost use Rattle.polygon.specs.Traverses.{begun, fed, fed_all, point_refusal, offered, closed};
+ghost use Rattle.polygon.specs.Traverses.{begun, fed, fed_all, point_refusal, offered, closing, closed};
 
 use crate::{Figures, Point, Traverse, transit};
 use area::{Winding, reduce_area};
@@ -13,7 +13,7 @@ use geomath::accepted;
 use surface::{Refusal, Surface};
 
 // The perimeter and the area of the polygon with the points given so far.
-#[derive(Drop)]
+#[derive(Drop, PartialEq, Debug)]
 pub struct PolygonArea<S> {
     surface: S,
     winding: Winding,
@@ -29,19 +29,10 @@ impl<S: Surface> PolygonArea<S> {
         ensures traverse { result.traverse ≡ begun }
         ensures examples { Examples }
     {
-        let origin = Point { lat: 0.0, lon: 0.0 };
-        let traverse = Traverse {
-            num: 0,
-            areasum: 0.0,
-            perimetersum: 0.0,
-            crossings: 0,
-            initial: origin,
-            latest: origin,
-        };
         PolygonArea {
             surface,
             winding,
-            traverse,
+            traverse: Traverse::default(),
         }
     }
 
@@ -70,8 +61,8 @@ impl<S: Surface> PolygonArea<S> {
             areasum: old.areasum + edge.S12,
             perimetersum: old.perimetersum + edge.s12,
             crossings: old.crossings + transit(old.latest.lon, point.lon),
-            initial: old.initial,
             latest: point,
+            ..old
         }
     }
 
@@ -103,15 +94,30 @@ impl<S: Surface> PolygonArea<S> {
         ensures polygon { (points : List Point) → self.traverse ≡ fed_all (S.edges self.surface) begun points → result ≡ figures_of (S.edges self.surface) (S.whole self.surface) self.winding sign points }
         ensures area_law { (points : List Point) → self.traverse ≡ fed_all (S.edges self.surface) begun points → PolygonLaw (S.edges self.surface) (S.whole self.surface) self.winding sign points result.area }
     {
-        let last = self.traverse.latest;
-        let first = self.traverse.initial;
-        let edge = self.surface.edge(last.lat, last.lon, first.lat, first.lon);
-        let crossings = self.traverse.crossings + transit(last.lon, first.lon);
-        let areasum = self.traverse.areasum + edge.S12;
-        Figures {
-            perimeter: self.traverse.perimetersum + edge.s12,
-            area: reduce_area(self.surface.area(), areasum, crossings, self.winding, sign),
-            count: self.traverse.num,
-        }
+        self.traverse.closed(&self.surface, self.winding, sign).0
+    }
+}
+
+impl Traverse {
+    // The figures with the edge from the latest point to the first, and how many evaluations that
+    // edge took.
+    pub fn closed<S: Surface>(&self, surface: &S, winding: Winding, sign: bool) -> (Figures, u8)
+        ensures value { result.0 ≡ closed (S.edges surface.now) (S.whole surface.now) winding sign self.now }
+        ensures polygon { (points : List Point) → self.now ≡ fed_all (S.edges surface.now) begun points → result.0 ≡ figures_of (S.edges surface.now) (S.whole surface.now) winding sign points }
+        ensures area_law { (points : List Point) → self.now ≡ fed_all (S.edges surface.now) begun points → PolygonLaw (S.edges surface.now) (S.whole surface.now) winding sign points result.0.area }
+        ensures evaluations { result.1 ≡ (closing (S.edges surface.now) self.now).evaluations }
+    {
+        let last = self.latest;
+        let first = self.initial;
+        let edge = surface.edge(last.lat, last.lon, first.lat, first.lon);
+        // Only whether they are odd tells, so that the sum needs no bound.
+        let crossings = self.crossings % 2 + transit(last.lon, first.lon);
+        let areasum = self.areasum + edge.S12;
+        let figures = Figures {
+            perimeter: self.perimetersum + edge.s12,
+            area: reduce_area(surface.area(), areasum, crossings, winding, sign),
+            count: self.num,
+        };
+        (figures, edge.evaluations)
     }
 }

@@ -1,8 +1,9 @@
--- A case is a line of four bit patterns: two arguments and two answers. Which cases agree with a function, and how many of a list do. Assumes nothing.
-use Rattle.std.specs.Prelude.{ℕ, ◌+◌, Bool, true, false, cond, ◌&&◌, List, [], ◌∷◌, Some, None, Option, ◌==◌, to_bits, Float}
+-- A case is a line of four bit patterns: two arguments and two answers. Which cases agree with a function, and how many lines of a list a judge meets. Assumes nothing.
+use Rattle.std.specs.Prelude.{ℕ, ◌+◌, Bool, true, false, ◌&&◌, List, [], ◌∷◌, Some, None, Option, ◌==◌, to_bits, Float}
 use Rattle.std.specs.Float.{binary64}
-use Rattle.text.specs.Patterns.{pattern_of}
-use Rattle.text.specs.Words.{first_word, after_word, lines_of}
+use Rattle.std.specs.Option.{option_or}
+use Rattle.text.specs.Rows.{patterns_of}
+use Rattle.text.specs.Words.{lines_of}
 use Rattle.replay.specs.declared.Case.{Case}
 use Rattle.replay.specs.declared.Tally.{Tally}
 
@@ -10,19 +11,13 @@ use Rattle.replay.specs.declared.Tally.{Tally}
 abbrev pub Answering : Type 0
 Answering = Float → Float → Float × Float
 
-abbrev pub case_from : Option Float → Option Float → Option Float → Option Float → Option Case
-case_from None y first second = None
-case_from (Some x) None first second = None
-case_from (Some x) (Some y) None second = None
-case_from (Some x) (Some y) (Some first) None = None
-case_from (Some x) (Some y) (Some first) (Some second) = Some (record { x = x; y = y; first = first; second = second })
+abbrev pub case_from : Option (List Float) → Option Case
+case_from (Some (x ∷ y ∷ first ∷ second ∷ [])) = Some (record { x = x; y = y; first = first; second = second })
+case_from _ = None
 
 -- the first four words of the line, read as patterns
 abbrev pub case_of : List ℕ → Option Case
-case_of line =
-    let after = after_word line in
-    let later = after_word after in
-    case_from (pattern_of (first_word line)) (pattern_of (first_word after)) (pattern_of (first_word later)) (pattern_of (first_word (after_word later)))
+case_of line = case_from (patterns_of 4 line)
 
 -- the same bits; NaN is one pattern
 abbrev pub same_pattern : Float → Float → Bool
@@ -36,14 +31,19 @@ agrees_at f (Some c) = same_pattern (f c.x c.y).0 c.first && same_pattern (f c.x
 abbrev pub agrees_on : Answering → List ℕ → Bool
 agrees_on f line = agrees_at f (case_of line)
 
--- one case more; `first` is the number of the first line that differs, from 1, and 0 while none does
+-- one case more; `first` is the number of the first line that differs, from 1, and none while none does
 abbrev pub counted : Tally → Bool → Tally
 counted t true = record { cases = t.cases + 1; differing = t.differing; first = t.first }
-counted t false = record { cases = t.cases + 1; differing = t.differing + 1; first = cond (t.first == 0) (t.cases + 1) t.first }
+counted t false = record { cases = t.cases + 1; differing = t.differing + 1; first = option_or t.first (Some (t.cases + 1)) }
 
-abbrev pub tally_after : Answering → Tally → List (List ℕ) → Tally
-tally_after f t [] = t
-tally_after f t (line ∷ lines) = tally_after f (counted t (agrees_on f line)) lines
+abbrev pub judged_after : (List ℕ → Bool) → Tally → List (List ℕ) → Tally
+judged_after meets t [] = t
+judged_after meets t (line ∷ lines) = judged_after meets (counted t (meets line)) lines
 
+-- how many lines the text has, how many a judge does not meet, and the first of these
+abbrev pub judged_of : (List ℕ → Bool) → List ℕ → Tally
+judged_of meets text = judged_after meets (record { cases = 0; differing = 0; first = None }) (lines_of text)
+
+-- how many lines the text has, how many the function does not answer, and the first of these
 abbrev pub tally_of : Answering → List ℕ → Tally
-tally_of f text = tally_after f (record { cases = 0; differing = 0; first = 0 }) (lines_of text)
+tally_of f text = judged_of (agrees_on f) text

@@ -2,50 +2,33 @@
 #![tactic(auto)]
 
 ghost use Rattle.std.specs.Prelude.{◌≡◌, IfOk, string_bytes};
-ghost use Rattle.report.specs.Reports.{layer_name, figures_text, fault_text, report_of};
+ghost use Rattle.report.specs.Reports.{figures_text, report_of, sheet_text};
 
-use drawing::Drawing;
-use packed::{Layer, SheetFault, Told};
+use drawing::{Drawing, draw};
+use packed::SheetFault;
+use polygon::Point;
+use stations::{EditRecord, Station};
 use std::alloc::{AllocError, Global};
 use text::Pattern;
 
-// The name of a layer.
-fn layer_name(layer: Layer) -> &'static str
-    ensures { result.now ≡ layer_name layer }
-{
-    match layer {
-        Layer::Bits => "bits",
-        Layer::Field => "field",
-        Layer::Outline => "outline",
-    }
-}
+// The rows on which a sheet is drawn.
+const STATIONS: usize = 1024;
+
+const EDITS: usize = 256;
 
 // The figures, a line each: floats as bit patterns.
 fn figures_text(heap: Global, drawing: Drawing) -> Result<String, AllocError>
     ensures { IfOk result (λ s. string_bytes s ≡ figures_text drawing) }
 {
-    let count = drawing.figures.count;
-    let perimeter = Pattern(drawing.figures.perimeter);
-    let area = Pattern(drawing.figures.area);
-    let edges = drawing.cost.edges;
-    let evaluations = drawing.cost.evaluations;
+    let Drawing { figures, cost } = drawing;
+    let count = figures.count;
+    let perimeter = Pattern::from(figures.perimeter);
+    let area = Pattern::from(figures.area);
+    let edges = cost.edges;
+    let evaluations = cost.evaluations;
     format!(in heap;
         "points {count}\nperimeter {perimeter}\narea {area}\nedges {edges}\nevaluations {evaluations}\n"
     )
-}
-
-// A fault, on one line.
-fn fault_text(heap: Global, told: Told) -> Result<String, AllocError>
-    ensures { IfOk result (λ s. string_bytes s ≡ fault_text told) }
-{
-    let layer = layer_name(told.layer);
-    let Told {
-        layer: _,
-        number,
-        edit,
-        bit,
-    } = told;
-    format!(in heap; "refused {layer} {number} edit {edit} bit {bit}\n")
 }
 
 // What is printed of a sheet that was drawn, or of its fault.
@@ -54,6 +37,40 @@ pub fn report(heap: Global, answer: Result<Drawing, SheetFault>) -> Result<Strin
 {
     match answer {
         Ok(drawing) => figures_text(heap, drawing),
-        Err(fault) => fault_text(heap, fault.told()),
+        Err(fault) => format!(in heap; "refused {fault}\n"),
+    }
+}
+
+// What is printed of a packed sheet that is drawn on new rows.
+pub fn sheet_text(heap: Global, bytes: &[u8]) -> Result<String, AllocError>
+    ensures { IfOk result (λ s. string_bytes s ≡ sheet_text bytes.now) }
+{
+    let nowhere = Station::first(Point { lat: 0.0, lon: 0.0 });
+    let mut stations = vec![in heap; nowhere; STATIONS]?;
+    let mut edits = vec![in heap; EditRecord::added(0); EDITS]?;
+    let answer = draw(bytes, stations.as_mut_slice(), edits.as_mut_slice());
+    report(heap, answer)
+}
+
+#[cfg(test)]
+mod tests {
+    use super::*;
+    use std::test::Fail;
+
+    #[test]
+    fn no_points(rt: HostRuntime) -> Result<(), Fail> {
+        let text = sheet_text(rt.alloc(), &[0x1d, 0, 0])?;
+        assert_eq!(rt;
+            text.as_str(),
+            "points 0\nperimeter 0000000000000000\narea 8000000000000000\nedges 1\nevaluations 0\n"
+        );
+        Ok(())
+    }
+
+    #[test]
+    fn an_edit_is_missing(rt: HostRuntime) -> Result<(), Fail> {
+        let text = sheet_text(rt.alloc(), &[0x1d, 0, 1])?;
+        assert_eq!(rt; text.as_str(), "refused bits 9 edit 1 bit 24\n");
+        Ok(())
     }
 }

@@ -1,5 +1,6 @@
-// A row of records in the caller's storage, of which the first `count` slots are in use: one text
-// for every kind of record.
+// A row of records in the caller's storage, of which the first `count` slots are in use: generic over
+// the kind of record. The row and its count are parameters, since the caller keeps them apart and
+// lends the row anew to each call.
 #![tactic(auto)]
 
 ghost use Rattle.std.specs.Prelude.{◌≡◌};

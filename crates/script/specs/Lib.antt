@@ -1,1 +1,4 @@
+pub mod Numbers
 pub mod Lines
+pub mod Faults
+pub mod Rows

@@ -1,15 +1,14 @@
 -- What a line of a text of calls says: nothing, where it is blank or begins with #; a call, where it is a verb with its numbers. Assumes nothing.
-use Rattle.std.specs.Prelude.{◌≡◌, ℕ, ◌^◌, Bool, true, false, cond, ◌&&◌, ◌||◌, List, [], ◌∷◌, length, Some, None, codes, Option, MatchOption, ◌==◌, ◌≢◌, nat_lt, Float}
+use Rattle.std.specs.Prelude.{◌≡◌, ℕ, ◌^◌, Bool, true, false, cond, ◌&&◌, ◌||◌, List, [], ◌∷◌, length, Some, None, Ok, Err, codes, Option, Result, MatchResult, ◌==◌, ◌≢◌, nat_lt, Float}
 use Rattle.std.specs.Str.Parse.{without_leading_plus, digits_value}
 use Rattle.std.specs.Str.{all_ascii_digits, bytes_eq}
 use Rattle.history.specs.declared.Call.{Call}
 use Rattle.history.specs.declared.Call.TheVariants.{Add as AddPoint, Move as MovePoint, Drop as DropPoint, TakeBack, Measure as MeasureAll}
-use Rattle.text.specs.Decimals.{ReadsDecimal}
 use Rattle.text.specs.Words.{first_word, after_word}
+use Rattle.script.specs.Numbers.{absent, ReadsNumbers}
 use Rattle.script.specs.declared.Verb.{Verb}
 use Rattle.script.specs.declared.Verb.TheVariants.{Add, Move, Drop, Back, Measure}
-use Rattle.script.specs.declared.Entry.{Entry}
-use Rattle.script.specs.declared.Entry.TheVariants.{Remark, Unreadable, Asked}
+use Rattle.script.specs.declared.NotACall.{NotACall}
 
 abbrev pub word_of : Verb → List ℕ
 word_of Add = codes "add"
@@ -18,22 +17,9 @@ word_of Drop = codes "drop"
 word_of Back = codes "back"
 word_of Measure = codes "measure"
 
--- the verb that the word is, or none where it is none
-abbrev pub Named : List ℕ → Option Verb → Type 0
-Named word answer = MatchOption answer ((v : Verb) → word_of v ≢ word) (λ v. word_of v ≡ word)
-
--- the second, the third and the fourth word
-abbrev pub second_word : List ℕ → List ℕ
-second_word text = first_word (after_word text)
-
-abbrev pub third_word : List ℕ → List ℕ
-third_word text = first_word (after_word (after_word text))
-
-abbrev pub fourth_word : List ℕ → List ℕ
-fourth_word text = first_word (after_word (after_word (after_word text)))
-
-abbrev pub absent : List ℕ → Bool
-absent word = length word == 0
+-- the verb that the word is; no other word is the word of a call
+abbrev pub ReadsVerb : List ℕ → Result Verb NotACall → Type 0
+ReadsVerb word answer = MatchResult answer (λ v. word_of v ≡ word) (λ _. (v : Verb) → word_of v ≢ word)
 
 -- one digit or more, perhaps after a plus, that write a number below 2^64
 abbrev pub is_place : List ℕ → Bool
@@ -47,16 +33,13 @@ place_of word = cond (is_place word) (Some (digits_value 10 (without_leading_plu
 abbrev pub only_if : Bool → Call → Option Call
 only_if alone call = cond alone (Some call) None
 
-abbrev pub add_from : Option Float → Option Float → Bool → Option Call
-add_from None lon alone = None
-add_from (Some lat) None alone = None
-add_from (Some lat) (Some lon) alone = only_if alone (AddPoint lat lon)
+abbrev pub add_of : Option (List Float) → Option Call
+add_of (Some (lat ∷ lon ∷ [])) = Some (AddPoint lat lon)
+add_of _ = None
 
-abbrev pub move_from : Option ℕ → Option Float → Option Float → Bool → Option Call
-move_from None lat lon alone = None
-move_from (Some place) None lon alone = None
-move_from (Some place) (Some lat) None alone = None
-move_from (Some place) (Some lat) (Some lon) alone = only_if alone (MovePoint place lat lon)
+abbrev pub move_of : Option (List Float) → Option ℕ → Option Call
+move_of (Some (lat ∷ lon ∷ [])) (Some place) = Some (MovePoint place lat lon)
+move_of _ _ = None
 
 abbrev pub drop_from : Option ℕ → Bool → Option Call
 drop_from None alone = None
@@ -65,21 +48,18 @@ drop_from (Some place) alone = only_if alone (DropPoint place)
 abbrev pub measure_from : Bool → Bool → Bool → Option Call
 measure_from signed unsigned alone = cond (signed || unsigned) (only_if alone (MeasureAll signed)) None
 
--- add LAT LON; what is known of the two numbers is what is known of decimal texts
+-- add LAT LON
 abbrev pub ReadsAdd : List ℕ → Option Call → Type 0
-ReadsAdd words call =
-    (lat : Option Float) × (lon : Option Float) × ReadsDecimal (first_word words) lat × ReadsDecimal (second_word words) lon
-    × (call ≡ add_from lat lon (absent (third_word words)))
+ReadsAdd words call = (point : Option (List Float)) × ReadsNumbers 2 words point × (call ≡ add_of point)
 
 -- move PLACE LAT LON
 abbrev pub ReadsMove : List ℕ → Option Call → Type 0
 ReadsMove words call =
-    (lat : Option Float) × (lon : Option Float) × ReadsDecimal (second_word words) lat × ReadsDecimal (third_word words) lon
-    × (call ≡ move_from (place_of (first_word words)) lat lon (absent (fourth_word words)))
+    (point : Option (List Float)) × ReadsNumbers 2 (after_word words) point × (call ≡ move_of point (place_of (first_word words)))
 
 -- drop PLACE
 abbrev pub drop_of : List ℕ → Option Call
-drop_of words = drop_from (place_of (first_word words)) (absent (second_word words))
+drop_of words = drop_from (place_of (first_word words)) (absent (first_word (after_word words)))
 
 -- back
 abbrev pub back_of : List ℕ → Option Call
@@ -87,7 +67,7 @@ back_of words = only_if (absent (first_word words)) TakeBack
 
 -- measure, or measure unsigned
 abbrev pub measure_of : List ℕ → Option Call
-measure_of words = measure_from (absent (first_word words)) (bytes_eq (first_word words) (codes "unsigned")) (absent (second_word words))
+measure_of words = measure_from (absent (first_word words)) (bytes_eq (first_word words) (codes "unsigned")) (absent (first_word (after_word words)))
 
 -- the call that a verb and the words after it make, or none
 abbrev pub Makes : Verb → List ℕ → Option Call → Type 0
@@ -102,15 +82,18 @@ abbrev pub silent : List ℕ → Bool
 silent [] = true
 silent (c ∷ cs) = c == 35
 
-abbrev pub entry_from : Option Call → Entry
-entry_from None = Unreadable
-entry_from (Some call) = Asked call
+abbrev pub no_call : NotACall
+no_call = record {}
+
+abbrev pub answer_of : Option Call → Result (Option Call) NotACall
+answer_of None = Err no_call
+answer_of (Some call) = Ok (Some call)
 
 -- what the words after a verb say; without a verb, nothing that can be read
-abbrev pub SaysAfter : Option Verb → List ℕ → Entry → Type 0
-SaysAfter None words answer = answer ≡ Unreadable
-SaysAfter (Some verb) words answer = (call : Option Call) × Makes verb words call × (answer ≡ entry_from call)
+abbrev pub SaysAfter : Result Verb NotACall → List ℕ → Result (Option Call) NotACall → Type 0
+SaysAfter (Err _) words answer = answer ≡ Err no_call
+SaysAfter (Ok verb) words answer = (call : Option Call) × Makes verb words call × (answer ≡ answer_of call)
 
-pub record Says (line : List ℕ) (answer : Entry) : Type 0 where
-  pub remark : silent (first_word line) ≡ true → answer ≡ Remark
-  pub call : silent (first_word line) ≡ false → (verb : Option Verb) × Named (first_word line) verb × SaysAfter verb (after_word line) answer
+pub record Says (line : List ℕ) (answer : Result (Option Call) NotACall) : Type 0 where
+  pub remark : silent (first_word line) ≡ true → answer ≡ Ok None
+  pub call : silent (first_word line) ≡ false → (verb : Result Verb NotACall) × ReadsVerb (first_word line) verb × SaysAfter verb (after_word line) answer

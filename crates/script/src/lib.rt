@@ -1,15 +1,39 @@
 // A text of calls on an outline, one a line.
 #![tactic(auto)]
 
-ghost use Rattle.std.specs.Prelude.{◌≡◌, codes};
-ghost use Rattle.std.specs.Str.{bytes_eq};
-ghost use Rattle.script.specs.Lines.{Named, Makes, Says, ReadsAdd, ReadsMove, place_of, add_from, move_from, drop_from, only_if, measure_from, drop_of, back_of, measure_of};
+ghost use Rattle.std.specs.Prelude.{◌≡◌};
+ghost use Rattle.script.specs.Lines.{Makes, Says, ReadsAdd, ReadsMove, ReadsVerb, place_of, drop_of, back_of, measure_of};
 
+mod faults;
+mod words;
+
+pub use faults::LineFault;
 use history::Call;
-use text::{decimal, split_word};
+use std::error::Error;
+use std::fmt;
+use std::str::FromStr;
+use text::split_word;
+use words::is_blank;
+pub use words::{is_remark, numbers, row};
 
-#[derive(Clone, Copy)]
-pub enum Verb {
+// A line, or its first word, that is no call.
+#[derive(Clone, Copy, Debug, PartialEq, Eq, Hash)]
+pub struct NotACall;
+
+impl fmt::Display for NotACall {
+    ghost use Rattle.std.specs.Prelude.{Some, codes};
+
+    ghost output = { λ _. Some (codes "not a call") };
+
+    fn fmt<W: fmt::Write>(&self, f: &mut fmt::Formatter<W>) -> fmt::Result {
+        write!(f, "not a call")
+    }
+}
+
+impl Error for NotACall {}
+
+#[derive(Clone, Copy, Debug, PartialEq, Eq, Hash)]
+enum Verb {
     Add,
     Move,
     Drop,
@@ -17,112 +41,46 @@ pub enum Verb {
     Measure,
 }
 
-impl Verb {
-    // The verb that a word is.
-    pub fn named(word: &str) -> Option<Verb>
-        ensures { Named word.now result }
-    {
+impl FromStr for Verb {
+    type Err = NotACall;
+
+    ghost from_str_gives = { ReadsVerb };
+
+    fn from_str(word: &str) -> Result<Verb, NotACall> {
         match word {
-            "add" => Some(Verb::Add),
-            "move" => Some(Verb::Move),
-            "drop" => Some(Verb::Drop),
-            "back" => Some(Verb::Back),
-            "measure" => Some(Verb::Measure),
-            _ => None,
+            "add" => Ok(Verb::Add),
+            "move" => Ok(Verb::Move),
+            "drop" => Ok(Verb::Drop),
+            "back" => Ok(Verb::Back),
+            "measure" => Ok(Verb::Measure),
+            _ => Err(NotACall),
         }
     }
-}
-
-#[derive(Clone, Copy)]
-pub enum Entry {
-    // a blank line, or one that begins with #
-    Remark,
-    // a line that is no call
-    Unreadable,
-    Asked(Call),
 }
 
 // The place that a word writes, counted from 0.
 fn place_of(word: &str) -> Option<usize>
     ensures { result ≡ place_of word.now }
 {
-    match word.parse::<usize>() {
-        Ok(place) => Some(place),
-        Err(_) => None,
-    }
-}
-
-// Whether the word is `unsigned`.
-fn says_unsigned(word: &str) -> bool
-    ensures { result ≡ bytes_eq word.now (codes "unsigned") }
-{
-    word == "unsigned"
-}
-
-// The call if nothing else stands on the line.
-fn only_if(alone: bool, call: Call) -> Option<Call>
-    ensures { result ≡ only_if alone call }
-{
-    if alone { Some(call) } else { None }
-}
-
-fn add_from(lat: Option<f64>, lon: Option<f64>, alone: bool) -> Option<Call>
-    ensures { result ≡ add_from lat lon alone }
-{
-    match (lat, lon) {
-        (Some(lat), Some(lon)) => only_if(alone, Call::Add { lat, lon }),
-        _ => None,
-    }
-}
-
-fn move_from(place: Option<usize>, lat: Option<f64>, lon: Option<f64>, alone: bool) -> Option<Call>
-    ensures { result ≡ move_from place lat lon alone }
-{
-    match (place, lat, lon) {
-        (Some(place), Some(lat), Some(lon)) => only_if(alone, Call::Move { place, lat, lon }),
-        _ => None,
-    }
-}
-
-fn drop_from(place: Option<usize>, alone: bool) -> Option<Call>
-    ensures { result ≡ drop_from place alone }
-{
-    match place {
-        Some(place) => only_if(alone, Call::Drop { place }),
-        None => None,
-    }
-}
-
-// A measure gives the area its sign, unless the line goes on with `unsigned`.
-fn measure_from(signed: bool, unsigned: bool, alone: bool) -> Option<Call>
-    ensures { result ≡ measure_from signed unsigned alone }
-{
-    if signed || unsigned {
-        only_if(alone, Call::Measure { sign: signed })
-    } else {
-        None
-    }
+    word.parse().ok()
 }
 
 // add LAT LON
 fn read_add(words: &str) -> Option<Call>
     ensures { ReadsAdd words.now result }
 {
-    let (lat, after) = split_word(words);
-    let (lon, rest) = split_word(after);
-    let (more, _) = split_word(rest);
-    add_from(decimal(lat), decimal(lon), more.is_empty())
+    let [lat, lon] = numbers::<2>(words)?;
+    Some(Call::Add { lat, lon })
 }
 
 // move PLACE LAT LON
 fn read_move(words: &str) -> Option<Call>
     ensures { ReadsMove words.now result }
 {
-    let (place, after) = split_word(words);
-    let (lat, later) = split_word(after);
-    let (lon, rest) = split_word(later);
-    let (more, _) = split_word(rest);
-    move_from(place_of(place), decimal(lat), decimal(lon), more.is_empty())
+    let (place, point) = split_word(words);
+    let [lat, lon] = numbers::<2>(point)?;
+    let place = place_of(place)?;
+    Some(Call::Move { place, lat, lon })
 }
 
 // drop PLACE
@@ -130,25 +88,28 @@ fn read_drop(words: &str) -> Option<Call>
     ensures { result ≡ drop_of words.now }
 {
     let (place, rest) = split_word(words);
-    let (more, _) = split_word(rest);
-    drop_from(place_of(place), more.is_empty())
+    let place = place_of(place)?;
+    is_blank(rest).then_some(Call::Drop { place })
 }
 
 // back
 fn read_back(words: &str) -> Option<Call>
     ensures { result ≡ back_of words.now }
 {
-    let (more, _) = split_word(words);
-    only_if(more.is_empty(), Call::TakeBack)
+    is_blank(words).then_some(Call::TakeBack)
 }
 
-// measure, or measure unsigned
+// measure, which gives the area its sign, or measure unsigned
 fn read_measure(words: &str) -> Option<Call>
     ensures { result ≡ measure_of words.now }
 {
     let (how, rest) = split_word(words);
-    let (more, _) = split_word(rest);
-    measure_from(how.is_empty(), says_unsigned(how), more.is_empty())
+    let sign = match how {
+        "" => true,
+        "unsigned" => false,
+        _ => return None,
+    };
+    is_blank(rest).then_some(Call::Measure { sign })
 }
 
 // The call that a verb and the words after it make.
@@ -164,20 +125,14 @@ fn call_of(verb: Verb, words: &str) -> Option<Call>
     }
 }
 
-// What a line says.
-pub fn read(line: &str) -> Entry
+// The call of a line, if it is not blank and does not begin with #.
+pub fn read(line: &str) -> Result<Option<Call>, NotACall>
     ensures { Says line.now result }
 {
-    let (word, words) = split_word(line);
-    match word.as_bytes() {
-        [] | [b'#', ..] => return Entry::Remark,
-        _ => {}
+    if is_remark(line) {
+        return Ok(None);
     }
-    let Some(verb) = Verb::named(word) else {
-        return Entry::Unreadable;
-    };
-    match call_of(verb, words) {
-        Some(call) => Entry::Asked(call),
-        None => Entry::Unreadable,
-    }
+    let (verb, words) = split_word(line);
+    let call = call_of(verb.parse()?, words).ok_or(NotACall)?;
+    Ok(Some(call))
 }

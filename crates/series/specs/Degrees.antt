@@ -3,10 +3,9 @@ use Rattle.std.specs.Prelude.{ℕ, ◌%◌, false, cond, ◌==◌, Float}
 use Rattle.std.specs.Float.Ieee.{neg}
 use Rattle.std.specs.Float.{float_with_sign}
 use Rattle.functions.specs.Sets.{Funcs}
-use Rattle.floats.specs.Arithmetic.{◌⊕◌, ◌⊖◌, ◌⊗◌, ◌⊘◌, ◌≺◌, ◌≻◌, ◌≽◌, ◌≗◌, bits}
-use Rattle.floats.specs.Choices.{signed}
+use Rattle.floats.specs.Arithmetic.{◌⊕◌, ◌⊖◌, ◌⊗◌, ◌⊘◌, ◌≺◌, ◌≻◌, ◌≽◌, bits}
 use Rattle.geomath.specs.Angles.{zero, quarter_turn, half_turn}
-use Rattle.floats.specs.Remainders.{rest_by90, quotient_by90}
+use Rattle.floats.specs.Remainders.{zero_signed, rest_by90, quotient_by90}
 
 abbrev pub π : Float
 π = bits 0x400921fb54442d18
@@ -28,11 +27,8 @@ abbrev pub turned_cosine : ℕ → Float → Float → Float
 turned_cosine n s c = cond (n % 4 == 0) c (cond (n % 4 == 1) (neg s) (cond (n % 4 == 2) (neg c) s))
 
 -- a zero sine takes the sign of the angle
-abbrev pub zero_signed : Float → Float → Float
-zero_signed s x = cond (s ≗ zero) (signed s x) s
-
 unfoldable pub sind : Funcs → Float → Float
-sind F x = zero_signed (turned_sine (quotient_by90 x) (F.sin_of (radians (rest_by90 x))) (F.cos_of (radians (rest_by90 x)))) x
+sind F x = zero_signed x (turned_sine (quotient_by90 x) (F.sin_of (radians (rest_by90 x))) (F.cos_of (radians (rest_by90 x))))
 
 -- adding +0 makes a zero cosine +0
 unfoldable pub cosd : Funcs → Float → Float

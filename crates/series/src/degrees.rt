@@ -1,11 +1,11 @@
 // Sine and cosine of an angle in degrees, and the angle of a point in degrees.
 ghost use Rattle.std.specs.Prelude.{◌≡◌};
-ghost use Rattle.series.specs.Degrees.{turned_sine, turned_cosine, zero_signed, sind, cosd, near, flat, steep, atan2d};
+ghost use Rattle.series.specs.Degrees.{turned_sine, turned_cosine, sind, cosd, near, flat, steep, atan2d};
 
-use floats::{copysign, remquo};
+use floats::{remquo, zero_signed};
 use functions::FunctionSet;
 
-// Sine and cosine after n quarter turns, from those of the rest.
+// Sine and cosine after n quarter turns, from those of the rest; n is the number that remquo answers.
 fn turned(n: u8, s: f64, c: f64) -> (f64, f64)
     ensures sine { result.0 ≡ turned_sine n s c }
     ensures cosine { result.1 ≡ turned_cosine n s c }
@@ -18,15 +18,9 @@ fn turned(n: u8, s: f64, c: f64) -> (f64, f64)
     }
 }
 
-// A zero sine takes the sign of the angle.
-fn zero_signed(s: f64, x: f64) -> f64
-    ensures { result ≡ zero_signed s x }
-{
-    if s == 0.0 { copysign(s, x) } else { s }
-}
-
 // Sine and cosine of x degrees: exact at whole quarter turns, as only the rest within an eighth turn
-// is given to the function set.
+// is given to the function set. A zero sine takes the sign of the angle.
+#[tactic(auto, unfolding(crate::specs::Degrees::sind, crate::specs::Degrees::cosd))]
 pub fn sincosd<F: FunctionSet>(set: &F, x: f64) -> (f64, f64)
     ensures sine { result.0 ≡ sind (F.funcs set.now) x }
     ensures cosine { result.1 ≡ cosd (F.funcs set.now) x }
@@ -34,7 +28,7 @@ pub fn sincosd<F: FunctionSet>(set: &F, x: f64) -> (f64, f64)
     let (r, q) = remquo(x);
     let r = r.to_radians();
     let (sinx, cosx) = turned(q, set.sin(r), set.cos(r));
-    (zero_signed(sinx, x), cosx + 0.0)
+    (zero_signed(x, sinx), cosx + 0.0)
 }
 
 fn near_axis<F: FunctionSet>(set: &F, y: f64, x: f64) -> f64
@@ -55,7 +49,7 @@ fn flat_angle<F: FunctionSet>(set: &F, y: f64, x: f64) -> f64
     }
 }
 
-// The angle of a point that is nearer to the axis of y.
+// The angle of a point that is nearer to the axis of y; `+ -90.0` as the crate adds it.
 fn steep_angle<F: FunctionSet>(set: &F, y: f64, x: f64) -> f64
     ensures { result ≡ steep (F.funcs set.now) y x }
 {
@@ -67,6 +61,7 @@ fn steep_angle<F: FunctionSet>(set: &F, y: f64, x: f64) -> f64
 }
 
 // The angle of the point (x, y) in degrees.
+#[tactic(auto, unfolding(crate::specs::Degrees::atan2d))]
 pub fn atan2d<F: FunctionSet>(set: &F, y: f64, x: f64) -> f64
     ensures { result ≡ atan2d (F.funcs set.now) y x }
 {

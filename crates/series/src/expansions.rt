@@ -2,7 +2,7 @@
 ghost use Rattle.std.specs.Prelude.{◌≡◌};
 ghost use Rattle.series.specs.Expansions.{A1m1f, A2m1f, fourier, C1f, C2f};
 
-use crate::tables::{divisor, polyval_at, row};
+use crate::tables::{divisor, polyval_at, rest_from, row};
 use geomath::sq;
 
 const GEODESIC_ORDER: usize = 6;
@@ -40,17 +40,18 @@ pub fn _A2m1f(eps: f64) -> f64
 }
 
 // The l-th coefficient is ε^l times the polynomial in ε² of the table's l-th row; element 0 is 0.
+// Counted from 1, since l is the place written, the power of ε and what tells the degree of the row.
 fn fourier_coefficients(table: &[f64; 18], eps: f64) -> [f64; CARR_SIZE]
     ensures { result ≡ fourier eps table.now }
 {
     let eps2 = sq(eps);
     let mut c = [0.0; CARR_SIZE];
     let mut d = eps;
-    let mut o = 0;
+    let mut rows: &[f64] = table;
     for l in 1..=GEODESIC_ORDER {
         let m = (GEODESIC_ORDER - l) / 2;
-        c[l] = d * polyval_at(table, o, m, eps2) / divisor(table, o, m);
-        o += m + 2;
+        c[l] = d * polyval_at(rows, 0, m, eps2) / divisor(rows, 0, m);
+        rows = rest_from(rows, m + 2);
         d *= eps;
     }
     c

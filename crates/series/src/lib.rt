@@ -20,6 +20,7 @@ pub use sums::sin_cos_series;
 pub use tables::{divisor, polyval_at, row};
 
 // A two-vector divided by its length.
+#[tactic(auto, unfolding(crate::specs::Vectors::norm_x, crate::specs::Vectors::norm_y))]
 pub fn norm<F: FunctionSet>(set: &F, x: f64, y: f64) -> (f64, f64)
     ensures first { result.0 ≡ norm_x (F.funcs set.now) x y }
     ensures second { result.1 ≡ norm_y (F.funcs set.now) x y }
@@ -30,6 +31,7 @@ pub fn norm<F: FunctionSet>(set: &F, x: f64, y: f64) -> (f64, f64)
 
 // e atanh(e x), es being the eccentricity e with the sign of the flattening: on a prolate ellipsoid
 // e is imaginary, and the arc tangent stands for the area tangent.
+#[tactic(auto, unfolding(crate::specs::Eccentric::eatanhe))]
 pub fn eatanhe<F: FunctionSet>(set: &F, x: f64, es: f64) -> f64
     ensures { result ≡ eatanhe (F.funcs set.now) x es }
 {

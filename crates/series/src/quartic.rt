@@ -42,6 +42,7 @@ fn three_roots<F: FunctionSet>(set: &F, s: f64, r: f64) -> f64
 }
 
 // A root u of the resolvent cubic.
+#[tactic(auto, unfolding(crate::specs::Astroid::resolvent))]
 fn cubic_root<F: FunctionSet>(set: &F, s: f64, r: f64) -> f64
     ensures { result ≡ resolvent (F.funcs set.now) s r }
 {
@@ -61,6 +62,7 @@ fn sum_uv(u: f64, v: f64, q: f64) -> f64
 }
 
 // The quartic's positive root from the cubic's.
+#[tactic(auto, unfolding(crate::specs::Astroid::positive_root))]
 fn positive_root(u: f64, q: f64) -> f64
     ensures { result ≡ positive_root u q }
 {
@@ -71,6 +73,7 @@ fn positive_root(u: f64, q: f64) -> f64
 }
 
 // The positive root κ of κ⁴ + 2κ³ + (1 - x² - y²)κ² - 2y²κ - y² = 0, or 0 where there is none.
+#[tactic(auto, unfolding(crate::specs::Astroid::astroid))]
 pub fn astroid<F: FunctionSet>(set: &F, x: f64, y: f64) -> f64
     ensures { result ≡ astroid (F.funcs set.now) x y }
 {

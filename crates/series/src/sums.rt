@@ -10,18 +10,12 @@ fn recursion(ar: f64, terms: &[f64]) -> (f64, f64)
     ensures last { result.0 ≡ (clenshaw ar terms.now).y0 }
     ensures before { result.1 ≡ (clenshaw ar terms.now).y1 }
 {
-    let pairs = terms.len() / 2;
-    let mut y1 = 0.0;
-    let mut y0 = if terms.len() % 2 == 1 {
-        terms[2 * pairs]
-    } else {
-        0.0
-    };
-    for i in (0..pairs).rev() {
-        y1 = ar * y0 - y1 + terms[2 * i + 1];
-        y0 = ar * y1 - y0 + terms[2 * i];
-    }
-    (y0, y1)
+    let (pairs, single) = terms.as_chunks::<2>();
+    let start = single.first().copied().unwrap_or(0.0);
+    pairs.iter().rev().fold((start, 0.0), |(y0, y1), [c, d]| {
+        let y1 = ar * y0 - y1 + *d;
+        (ar * y1 - y0 + *c, y1)
+    })
 }
 
 // 2 cos 2σ.
@@ -46,7 +40,8 @@ fn cosine_series(sinx: f64, cosx: f64, c: &[f64]) -> f64
 }
 
 // With sin σ and cos σ: for sinp the sum of c_l sin 2lσ, l from 1 on, otherwise that of
-// c_l cos (2l+1)σ, l from 0 on.
+// c_l cos (2l+1)σ, l from 0 on. The argument list is the crate's.
+#[tactic(auto, unfolding(crate::specs::Clenshaw::sin_cos_series))]
 pub fn sin_cos_series(sinp: bool, sinx: f64, cosx: f64, c: &[f64]) -> f64
     ensures { result ≡ sin_cos_series sinp sinx cosx c.now }
 {

@@ -1,4 +1,5 @@
 // Polynomials whose coefficients stand in the rows of a table.
+// Places in the table are numbers, as in the crate, where each row begins at its offset.
 ghost use Rattle.std.specs.Prelude.{◌≡◌, drop};
 ghost use Rattle.series.specs.Tables.{polynomial_at, divisor_at, row_at};
 
@@ -8,10 +9,7 @@ use floats::polyval;
 pub fn rest_from(table: &[f64], at: usize) -> &[f64]
     ensures { result.now ≡ drop at table.now }
 {
-    if at >= table.len() {
-        return &[];
-    }
-    &table[at..]
+    table.get(at..).unwrap_or(&[])
 }
 
 // The polynomial of degree m at x, whose coefficients stand in the table from the place `at` on; past
@@ -20,23 +18,16 @@ pub fn polyval_at(table: &[f64], at: usize, m: usize, x: f64) -> f64
     ensures { result ≡ polynomial_at x table.now at m }
 {
     let rest = rest_from(table, at);
-    if m < rest.len() {
-        polyval(&rest[0..m + 1], x)
-    } else {
-        polyval(rest, x)
-    }
+    polyval(rest.get(..=m).unwrap_or(rest), x)
 }
 
-// The number behind the m + 1 coefficients of a row; NaN where the table ends before.
+// The number behind the m + 1 coefficients of a row. NaN where the table ends before, since every
+// place is answered; the rows of the crate's tables are whole.
 pub fn divisor(table: &[f64], at: usize, m: usize) -> f64
     ensures { result ≡ divisor_at table.now at m }
 {
     let rest = rest_from(table, at);
-    if m < rest.len().saturating_sub(1) {
-        rest[m + 1]
-    } else {
-        f64::NAN
-    }
+    rest_from(rest, m).get(1).copied().unwrap_or(f64::NAN)
 }
 
 // The row of degree m at the place `at`, at x: its polynomial divided by the number behind it.

@@ -1,5 +1,6 @@
 -- Drawing a station anew solves one edge if there is a station before it: so a placed or moved point costs one edge for each neighbour.
 use Rattle.std.proofs.Common.{◌≡◌, ℕ, ◌+◌, ◌-◌, ◌<◌, ◌≤◌, Bool, true, false, cond, ◌&&◌, ltb, List, length, set, refl, ap, ◌∙◌, inl, ⊎_elim, arith}
+use Rattle.std.proofs.Math.Nat.{min-eq_left}
 use Rattle.std.proofs.lemmas.List.{length-set}
 use Rattle.std.proofs.lemmas.Bool.{lt-ltb, le-ltb, eq-eqb, ne_eqb, cases_lt, and_right}
 use Rattle.rows.specs.Rows.{put_in, take_out}
@@ -7,7 +8,8 @@ use Rattle.rows.proofs.Changes.{length_put_in, length_take_out}
 use Rattle.polygon.specs.declared.Point.{Point}
 use Rattle.polygon.specs.Polygons.{Solve}
 use Rattle.stations.specs.declared.Station.{Station}
-use Rattle.stations.specs.Stations.{Drawing, first_station, redrawn, redrawn_twice, placed, moved, dropped}
+use Rattle.stations.specs.declared.Cost.{Cost}
+use Rattle.stations.specs.Stations.{Drawing, capped, together, first_station, redrawn, redrawn_twice, placed, moved, dropped}
 use Rattle.stations.specs.Costs.{neighbours, bridged, add_edges}
 use Rattle.stations.proofs.Redrawing.{room, used, not_used, redrawn_not, redrawn_first, redrawn-next, placed_room, moved_used, dropped_used}
 
@@ -87,3 +89,7 @@ last_neighbours count =
     (λ some. let ne : count ≡ 0 → ⊥ = λ e. omega arith in rw (none, lt-ltb 0 count some, ne_eqb count 0 ne))
     (λ empty. rw (none, le-ltb 0 count empty, eq-eqb count 0 (omega arith)))
     (cases_lt 0 count)
+
+-- where 32 bits hold both counts, all of them
+pub capped_is : (a b : Cost) → a.edges + b.edges ≤ 4294967295 → a.evaluations + b.evaluations ≤ 4294967295 → capped a b ≡ together a b
+capped_is a b edges evaluations = rw (min-eq_left edges, min-eq_left evaluations) refl

@@ -1,5 +1,5 @@
 -- How many edges an edit solves. Assumes nothing.
-use Rattle.std.specs.Prelude.{◌≡◌, ℕ, ◌+◌, ◌*◌, ◌≤◌, cond, ◌&&◌, Ok, Err, Result, ◌==◌, nat_lt}
+use Rattle.std.specs.Prelude.{◌≡◌, ℕ, ◌+◌, ◌*◌, ◌≤◌, cond, ◌&&◌, Result, IfOk, ◌==◌, nat_lt}
 use Rattle.surface.specs.declared.refusals.Refusal.{Refusal}
 use Rattle.stations.specs.declared.Cost.{Cost}
 use Rattle.stations.specs.declared.records.EditRecord.{EditRecord}
@@ -22,7 +22,10 @@ abbrev pub take_back_edges : ℕ → EditRecord → ℕ
 take_back_edges count e =
     cond (e.kind == add_kind) 0 (cond (e.kind == move_kind) (neighbours count e.place) (neighbours (count + 1) e.place))
 
+-- so many edges at most, each by at most 83 evaluations
+abbrev pub AtMost : ℕ → Cost → Type 0
+AtMost most cost = (cost.edges ≤ most) × (cost.evaluations ≤ 83 * cost.edges)
+
 -- an edit that was not refused solved this many edges, each by at most 83 evaluations
 abbrev pub Costs : Result Cost Refusal → ℕ → Type 0
-Costs (Ok cost) edges = (cost.edges ≡ edges) × (cost.evaluations ≤ 83 * cost.edges)
-Costs (Err e) edges = Unit {0}
+Costs answer edges = IfOk answer (λ cost. (cost.edges ≡ edges) × (cost.evaluations ≤ 83 * cost.edges))

@@ -1,8 +1,12 @@
 -- Edit records: what is noted of an edit, when a record fits an outline, and which records a row holds. Assumes nothing.
-use Rattle.std.specs.Prelude.{ℕ, ◌+◌, ◌-◌, Bool, false, cond, ◌&&◌, List, length, ◌==◌, nat_le, nat_lt}
+use Rattle.std.specs.Prelude.{◌≡◌, ℕ, ◌+◌, ◌-◌, Bool, true, false, cond, ◌&&◌, List, length, Option, Result, MatchResult, ◌==◌, nat_le, nat_lt}
+use Rattle.std.specs.Option.{MatchOption}
 use Rattle.geomath.specs.Angles.{zero, accepts}
 use Rattle.polygon.specs.declared.Point.{Point}
 use Rattle.rows.specs.Rows.{put_in, take_out}
+use Rattle.stations.specs.declared.records.EditKind.{EditKind}
+use Rattle.stations.specs.declared.records.EditKind.TheVariants.{Add, Move, Drop}
+use Rattle.stations.specs.declared.records.UnknownKind.{UnknownKind}
 use Rattle.stations.specs.declared.records.EditRecord.{EditRecord}
 
 -- ---- the kinds
@@ -17,6 +21,23 @@ move_kind = 2
 abbrev pub drop_kind : ℕ
 drop_kind = 3
 
+-- the number of a kind
+abbrev pub code_of : EditKind → ℕ
+code_of Add = add_kind
+code_of Move = move_kind
+code_of Drop = drop_kind
+
+-- the kind with this number, or an error with a number that no kind has
+abbrev pub KindOf : ℕ → Result EditKind UnknownKind → Type 0
+KindOf number r =
+    MatchResult r (λ kind. code_of kind ≡ number) (λ e. (e.0 ≡ number) × (number ≡ add_kind → ⊥) × (number ≡ move_kind → ⊥) × (number ≡ drop_kind → ⊥))
+
+-- ---- the records
+
+-- an edit of a kind at a place, where the point p stood before
+abbrev pub record_of : EditKind → ℕ → Point → EditRecord
+record_of kind place p = record { kind = code_of kind; place = place; lat = p.lat; lon = p.lon }
+
 -- a point was added at a place
 abbrev pub add_record : ℕ → EditRecord
 add_record place = record { kind = add_kind; place = place; lat = zero; lon = zero }
@@ -28,6 +49,10 @@ move_record place p = record { kind = move_kind; place = place; lat = p.lat; lon
 -- the point p was dropped from a place
 abbrev pub drop_record : ℕ → Point → EditRecord
 drop_record place p = record { kind = drop_kind; place = place; lat = p.lat; lon = p.lon }
+
+-- the point that a record keeps
+abbrev pub old_point : EditRecord → Point
+old_point e = record { lat = e.lat; lon = e.lon }
 
 -- ---- when a record fits an outline of `count` points in a row of `room` slots
 
@@ -41,6 +66,11 @@ fits_outline count room e =
     (e.kind == move_kind)
     (nat_lt e.place count && accepts e.lat e.lon)
     (cond (e.kind == drop_kind) (nat_le e.place count && nat_lt count room && accepts e.lat e.lon) false))
+
+-- the kind of a record that fits, and none of one that does not
+abbrev pub KindIfFit : ℕ → ℕ → EditRecord → Option EditKind → Type 0
+KindIfFit count room e r =
+    MatchOption r (fits_outline count room e ≡ false) (λ kind. (fits_outline count room e ≡ true) × (code_of kind ≡ e.kind))
 
 -- ---- the row of records, the oldest first
 

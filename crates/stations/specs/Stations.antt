@@ -1,5 +1,5 @@
 -- A station and the edge that arrives at it, drawn from the point before. Assumes nothing.
-use Rattle.std.specs.Prelude.{ℕ, ◌+◌, ◌-◌, cond, List, pos, ◌==◌, slice_index_or, slice_set}
+use Rattle.std.specs.Prelude.{ℕ, ◌+◌, ◌-◌, min, cond, List, pos, ◌==◌, slice_index_or, slice_set}
 use Rattle.std.specs.Float.{nan}
 use Rattle.geomath.specs.Angles.{zero}
 use Rattle.polygon.specs.declared.Point.{Point}
@@ -49,12 +49,19 @@ one_edge evaluations = record { edges = 1; evaluations = evaluations }
 abbrev pub together : Cost → Cost → Cost
 together a b = record { edges = a.edges + b.edges; evaluations = a.evaluations + b.evaluations }
 
+-- both together in numbers of 32 bits, of which the greatest stands for all above it
+abbrev pub capped : Cost → Cost → Cost
+capped a b = record { edges = min (a.edges + b.edges) 4294967295; evaluations = min (a.evaluations + b.evaluations) 4294967295 }
+
 -- ---- a row redrawn
 
 -- a row of stations, and what it cost to draw it
 pub record Drawing : Type 0 where
   pub stations : List Station
   pub cost : Cost
+
+abbrev pub drawing : List Station → Cost → Drawing
+drawing row cost = record { stations = row; cost = cost }
 
 -- the station at a place as it is drawn from the one before
 abbrev pub station_at : Solve → List Station → ℕ → Station

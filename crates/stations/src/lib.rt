@@ -2,20 +2,22 @@
 // before it, how an edit is noted, and when a record fits an outline.
 #![tactic(auto)]
 
-ghost use Rattle.std.specs.Prelude.{◌≡◌, ◌*◌, ◌<◌, ◌≤◌};
-ghost use Rattle.stations.specs.Stations.{point_of, first_station, next_station, redrawn, redrawn_twice, placed, moved, dropped};
+ghost use Rattle.std.specs.Prelude.{◌≡◌, ◌<◌, ◌≤◌};
+ghost use Rattle.stations.specs.Costs.{AtMost};
+ghost use Rattle.stations.specs.Stations.{point_of, first_station, next_station, capped, drawing, redrawn, redrawn_twice, placed, moved, dropped};
 
 mod records;
 
 use polygon::{Point, transit};
-pub use records::{ADD, DROP, EditRecord, MOVE, note};
+pub use records::{EditKind, EditRecord, UnknownKind, note};
 use rows::{put_in, take_out};
+use std::ops::Add;
 use surface::Surface;
 
 // A point of an outline, and the edge that arrives at it from the station before: its length, its
 // area, its crossing of the prime meridian and the evaluations that it took. In the first station
 // these four are 0.
-#[derive(Clone, Copy)]
+#[derive(Clone, Copy, PartialEq, Debug, Default)]
 #[repr(C)]
 pub struct Station {
     pub lat: f64,
@@ -27,11 +29,33 @@ pub struct Station {
 }
 
 // Edges solved, and the evaluations spent on them.
-#[derive(Clone, Copy)]
+#[derive(Clone, Copy, PartialEq, Eq, Debug, Default, Hash)]
 #[repr(C)]
 pub struct Cost {
     pub edges: u32,
     pub evaluations: u32,
+}
+
+impl Cost {
+    // No edge is solved.
+    pub const FREE: Cost = Cost {
+        edges: 0,
+        evaluations: 0,
+    };
+}
+
+// Both costs together; where a count passes what 32 bits hold, the most that they hold.
+impl Add for Cost {
+    type Output = Cost;
+
+    ghost add_gives = { λ one other sum. sum ≡ capped one other };
+
+    fn add(self, other: Cost) -> Cost {
+        Cost {
+            edges: self.edges.saturating_add(other.edges),
+            evaluations: self.evaluations.saturating_add(other.evaluations),
+        }
+    }
 }
 
 impl Station {
@@ -52,10 +76,7 @@ impl Station {
         Station {
             lat: at.lat,
             lon: at.lon,
-            s12: 0.0,
-            S12: 0.0,
-            crossing: 0,
-            evaluations: 0,
+            ..Station::default()
         }
     }
 
@@ -76,25 +97,22 @@ impl Station {
     }
 }
 
+// A surface, a row and a count stand as parameters of the five functions below: the row is lent anew
+// to each call, so a struct of them would be made only to be taken apart. They ask nothing of their
+// callers: out of range nothing is done, and that is free.
+
 // Draws the station at `place` anew from the station before it, if it is among the first `count`.
 fn redraw<S: Surface>(surface: &S, stations: &mut [Station], count: usize, place: usize) -> Cost
-    ensures row { stations.new ≡ (redrawn (S.edges surface.now) stations.old count place).stations }
-    ensures cost { result ≡ (redrawn (S.edges surface.now) stations.old count place).cost }
-    ensures few { (result.edges ≤ 1) × (result.evaluations ≤ 83 * result.edges) }
+    ensures drawing { drawing stations.new result ≡ redrawn (S.edges surface.now) stations.old count place }
+    ensures few { AtMost 1 result }
 {
     if place >= count || count > stations.len() {
-        return Cost {
-            edges: 0,
-            evaluations: 0,
-        };
+        return Cost::FREE;
     }
     let at = stations[place].point();
     if place == 0 {
         stations[place] = Station::first(at);
-        return Cost {
-            edges: 0,
-            evaluations: 0,
-        };
+        return Cost::FREE;
     }
     let before = stations[place - 1].point();
     let station = Station::next(surface, before, at);
@@ -113,16 +131,12 @@ fn redraw_twice<S: Surface>(
     place: usize,
 ) -> Cost
     requires { place < count }
-    ensures row { stations.new ≡ (redrawn_twice (S.edges surface.now) stations.old count place).stations }
-    ensures cost { result ≡ (redrawn_twice (S.edges surface.now) stations.old count place).cost }
-    ensures few { (result.edges ≤ 2) × (result.evaluations ≤ 83 * result.edges) }
+    ensures drawing { drawing stations.new result ≡ redrawn_twice (S.edges surface.now) stations.old count place }
+    ensures few { AtMost 2 result }
 {
     let here = redraw(surface, stations, count, place);
     let after = redraw(surface, stations, count, place + 1);
-    Cost {
-        edges: here.edges + after.edges,
-        evaluations: here.evaluations + after.evaluations,
-    }
+    here + after
 }
 
 // Puts a point in at `place` among the first `count` stations, and draws its station and the one
@@ -134,15 +148,11 @@ pub fn place_point<S: Surface>(
     place: usize,
     point: Point,
 ) -> Cost
-    ensures row { stations.new ≡ (placed (S.edges surface.now) stations.old count place point).stations }
-    ensures cost { result ≡ (placed (S.edges surface.now) stations.old count place point).cost }
-    ensures few { (result.edges ≤ 2) × (result.evaluations ≤ 83 * result.edges) }
+    ensures drawing { drawing stations.new result ≡ placed (S.edges surface.now) stations.old count place point }
+    ensures few { AtMost 2 result }
 {
     if place > count || count >= stations.len() {
-        return Cost {
-            edges: 0,
-            evaluations: 0,
-        };
+        return Cost::FREE;
     }
     put_in(stations, count, place, Station::first(point));
     redraw_twice(surface, stations, count + 1, place)
@@ -157,15 +167,11 @@ pub fn shift_point<S: Surface>(
     place: usize,
     point: Point,
 ) -> Cost
-    ensures row { stations.new ≡ (moved (S.edges surface.now) stations.old count place point).stations }
-    ensures cost { result ≡ (moved (S.edges surface.now) stations.old count place point).cost }
-    ensures few { (result.edges ≤ 2) × (result.evaluations ≤ 83 * result.edges) }
+    ensures drawing { drawing stations.new result ≡ moved (S.edges surface.now) stations.old count place point }
+    ensures few { AtMost 2 result }
 {
     if place >= count || count > stations.len() {
-        return Cost {
-            edges: 0,
-            evaluations: 0,
-        };
+        return Cost::FREE;
     }
     stations[place] = Station::first(point);
     redraw_twice(surface, stations, count, place)
@@ -179,15 +185,11 @@ pub fn remove_point<S: Surface>(
     count: usize,
     place: usize,
 ) -> Cost
-    ensures row { stations.new ≡ (dropped (S.edges surface.now) stations.old count place).stations }
-    ensures cost { result ≡ (dropped (S.edges surface.now) stations.old count place).cost }
-    ensures few { (result.edges ≤ 1) × (result.evaluations ≤ 83 * result.edges) }
+    ensures drawing { drawing stations.new result ≡ dropped (S.edges surface.now) stations.old count place }
+    ensures few { AtMost 1 result }
 {
     if place >= count || count > stations.len() {
-        return Cost {
-            edges: 0,
-            evaluations: 0,
-        };
+        return Cost::FREE;
     }
     take_out(stations, count, place);
     redraw(surface, stations, count - 1, place)

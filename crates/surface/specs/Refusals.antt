@@ -1,5 +1,6 @@
--- The number of each refusal. Assumes nothing.
-use Rattle.std.specs.Prelude.{ℕ}
+-- The number of each refusal, and the answer to a point. Assumes nothing.
+use Rattle.std.specs.Prelude.{ℕ, ⊤, cond, Ok, Err, Result, Float}
+use Rattle.geomath.specs.Angles.{accepts}
 use Rattle.surface.specs.declared.refusals.Refusal.{Refusal}
 use Rattle.surface.specs.declared.refusals.Refusal.TheVariants.{Shape, WholeArea, Point, RowLength, Full, Place, NothingToTakeBack, UnfitRecord}
 
@@ -12,3 +13,7 @@ number_of Full = 5
 number_of Place = 6
 number_of NothingToTakeBack = 7
 number_of UnfitRecord = 8
+
+-- refused where it is not accepted
+abbrev pub point_answer : Float → Float → Result ⊤ Refusal
+point_answer lat lon = cond (accepts lat lon) (Ok tt) (Err Point)

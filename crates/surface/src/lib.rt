@@ -10,11 +10,11 @@ mod plates;
 mod refusals;
 
 pub use plates::Plate;
-pub use refusals::Refusal;
+pub use refusals::{Refusal, accept};
 
 // An edge between two points: its length, the area between it and the equator, and how many
 // evaluations of the longitude equation it took.
-#[derive(Clone, Copy)]
+#[derive(Clone, Copy, PartialEq, Debug)]
 pub struct Edge {
     pub s12: f64,
     pub S12: f64,
@@ -38,7 +38,7 @@ pub trait Surface {
 
     ghost whole: { Self → Float };
 
-    // The edge from (lat1, lon1) to (lat2, lon2).
+    // The edge from (lat1, lon1) to (lat2, lon2), in the order of the crate's arguments.
     fn edge(&self, lat1: f64, lon1: f64, lat2: f64, lon2: f64) -> Edge
         ensures { result ≡ edges self.now lat1 lon1 lat2 lon2 };
 
@@ -48,5 +48,6 @@ pub trait Surface {
 
     ghost fits: { (s : Self) → whole_fits (whole s) ≡ true };
 
+    // 83 is the most that the search in `azimuth`, which stands above, makes for an edge.
     ghost few: { (s : Self) (lat1 lon1 lat2 lon2 : Float) → (edges s lat1 lon1 lat2 lon2).evaluations ≤ 83 };
 }

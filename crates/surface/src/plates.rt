@@ -12,7 +12,7 @@ use geomath::ang_diff;
 const SQUARE_DEGREES: f64 = 64800.0;
 
 // A plate on which a degree is `scale` units long.
-#[derive(Clone, Copy)]
+#[derive(Clone, Copy, PartialEq, Debug)]
 pub struct Plate {
     scale: f64,
     ghost fits: { whole_fits (plate_area scale) ≡ true },
@@ -21,10 +21,11 @@ pub struct Plate {
 impl Plate {
     // A plate of the scale k, from 1 to 10^6; refused where its whole area is not finite or is
     // below 2^-1021.
+    #[tactic(auto, using(floats::proofs::Ranges::at_most))]
     pub fn new(k: f64) -> Result<Plate, Refusal>
         ensures { MatchResult result (λ p. (plate_refusal k ≡ None) × (p.scale ≡ k)) (λ e. plate_refusal k ≡ Some e) }
     {
-        if !(k >= 1.0 && k <= 1e6) {
+        if !(1.0..=1e6).contains(&k) {
             return Err(Refusal::Shape);
         }
         if !whole_fits(k * k * SQUARE_DEGREES) {
@@ -43,6 +44,7 @@ impl Surface for Plate {
 
     ghost few = { unfold plate_edge in λ s lat1 lon1 lat2 lon2. lit≤ tt };
 
+    #[tactic(auto, unfolding(crate::specs::Plates::plate_edge))]
     fn edge(&self, lat1: f64, lon1: f64, lat2: f64, lon2: f64) -> Edge {
         let k = self.scale;
         let (d, _) = ang_diff(lon1, lon2);

@@ -1,3 +1,3 @@
-mod Fronts
 mod Digits
-pub mod Lines
+pub mod Cuts
+mod Readings

@@ -1,3 +1,4 @@
 pub mod Patterns
 pub mod Words
 pub mod Decimals
+pub mod Rows

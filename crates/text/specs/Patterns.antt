@@ -9,7 +9,7 @@ unfoldable pub hex_digits : ℕ → ℕ → List ℕ
 hex_digits zero n = []
 hex_digits (suc k) n = hex_digits k (n / 16) ++ (digit_char (n % 16) ∷ [])
 
-unfoldable pub pattern_digits : Float → List ℕ
+abbrev pub pattern_digits : Float → List ℕ
 pattern_digits x = hex_digits 16 (to_bits binary64 x)
 
 -- each character is a hexadecimal digit, in either case

@@ -1,35 +1,29 @@
 -- The lines of a text, and the words of a line: its longest runs of bytes that are not ASCII white space. Assumes nothing.
-use Rattle.std.specs.Prelude.{ℕ, suc, Bool, cond, not, List, [], ◌∷◌, take, drop, ◌==◌}
+use Rattle.std.specs.Prelude.{ℕ, Bool, cond, List, [], ◌∷◌, drop, ◌==◌}
 use Rattle.std.specs.Char.{is_ascii_whitespace}
-
--- how many elements the list begins with that pass the test
-abbrev pub front : (ℕ → Bool) → List ℕ → ℕ
-front passes [] = 0
-front passes (c ∷ cs) = cond (passes c) (suc (front passes cs)) 0
-
-abbrev pub dark : ℕ → Bool
-dark c = not (is_ascii_whitespace c)
+use Rattle.std.specs.List.{prefix_len, position_or_len, before_first, after_first}
+use Rattle.text.specs.declared.walk.Lines.{Lines}
 
 -- the text from its first word on
 abbrev pub trimmed : List ℕ → List ℕ
-trimmed text = drop (front is_ascii_whitespace text) text
+trimmed text = drop (prefix_len is_ascii_whitespace text) text
 
 -- the first word, empty where there is none, and what follows it
 unfoldable pub first_word : List ℕ → List ℕ
-first_word text = take (front dark (trimmed text)) (trimmed text)
+first_word text = before_first is_ascii_whitespace (trimmed text)
 
 unfoldable pub after_word : List ℕ → List ℕ
-after_word text = drop (front dark (trimmed text)) (trimmed text)
+after_word text = drop (position_or_len is_ascii_whitespace (trimmed text)) (trimmed text)
 
 abbrev pub newline : ℕ → Bool
 newline c = c == 10
 
 -- the bytes before the first newline, and those after it
 unfoldable pub first_line : List ℕ → List ℕ
-first_line text = take (front (λ c. not (newline c)) text) text
+first_line text = before_first newline text
 
 unfoldable pub after_line : List ℕ → List ℕ
-after_line text = drop (suc (front (λ c. not (newline c)) text)) text
+after_line text = after_first newline text
 
 -- c before the first of the lines
 abbrev pub grown : ℕ → List (List ℕ) → List (List ℕ)
@@ -40,3 +34,7 @@ grown c (l ∷ ls) = (c ∷ l) ∷ ls
 unfoldable pub lines_of : List ℕ → List (List ℕ)
 lines_of [] = []
 lines_of (c ∷ cs) = cond (newline c) ([] ∷ lines_of cs) (grown c (lines_of cs))
+
+-- the lines that a walk over them has left
+abbrev pub lines_left : Lines → List (List ℕ)
+lines_left walk = lines_of walk.rest.now

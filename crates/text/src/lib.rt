@@ -1,28 +1,32 @@
-// Text: the words of a line, decimal numbers, and bit patterns of floats in hexadecimal.
+// Text: the lines of a text, the words of a line, decimal numbers, and bit patterns of floats in
+// hexadecimal.
 #![tactic(auto)]
 
-ghost use Rattle.std.specs.Prelude.{◌≡◌, ◌<◌, ◌≤◌, ◌∷◌, length, if◌then◌else◌, Some, None, nat_lt};
+ghost use Rattle.std.specs.Prelude.{◌≡◌, ◌<◌, ◌≤◌, ◌∷◌, length, if◌then◌else◌, Some, None, to_bits};
+ghost use Rattle.std.specs.Char.{digit_char, is_ascii_whitespace};
+ghost use Rattle.std.specs.Float.{binary64};
+ghost use Rattle.std.specs.List.{position_or_len};
 ghost use Rattle.std.specs.Str.Parse.{digits_value};
-ghost use Rattle.std.specs.Char.{digit_char, digit_value};
-ghost use Rattle.std.specs.Str.{IsCharBoundary};
 ghost use Rattle.text.specs.Decimals.{ReadsDecimal};
-ghost use Rattle.text.specs.Patterns.{hexadecimal, pattern_digits, pattern_of};
-ghost use Rattle.text.specs.Words.{dark, front, first_word, after_word, first_line, after_line, lines_of};
+ghost use Rattle.text.specs.Patterns.{hex_digits, hexadecimal, pattern_digits, pattern_of};
+ghost use Rattle.text.specs.Words.{first_word, after_word, first_line, after_line, lines_of, lines_left};
 
+mod rows;
+mod walk;
+
+pub use rows::patterns;
 use std::fmt;
 use std::num::{f64_from_bits_with_nan, f64_to_bits_with_nan};
-use std::str::from_utf8;
+pub use walk::Lines;
 
 // How many bytes stand before the first white one.
 fn word_len(bytes: &[u8]) -> usize
-    ensures { result ≡ front dark bytes.now }
+    ensures { result ≡ position_or_len is_ascii_whitespace bytes.now }
 {
-    for (i, byte) in bytes.iter().enumerate() {
-        if byte.is_ascii_whitespace() {
-            return i;
-        }
-    }
-    bytes.len()
+    bytes
+        .iter()
+        .position(|byte| byte.is_ascii_whitespace())
+        .unwrap_or(bytes.len())
 }
 
 // The first word of a text, empty where there is none, and what follows it.
@@ -41,23 +45,25 @@ pub fn split_line(text: &str) -> (&str, &str)
     ensures lines { 0 < length text.now → lines_of text.now ≡ result.0.now ∷ lines_of result.1.now }
     ensures shorter { 0 < length text.now → length result.1.now < length text.now }
 {
-    match text.split_once('\n') {
-        Some((line, rest)) => (line, rest),
-        None => (text, ""),
-    }
+    text.split_once('\n').unwrap_or((text, ""))
+}
+
+// The lines of a text, in their order.
+pub fn lines(text: &str) -> Lines<'_>
+    ensures lines { lines_left result ≡ lines_of text.now }
+    ensures rest { result.rest.now ≡ text.now }
+{
+    Lines { rest: text }
 }
 
 // The number that a word writes in decimal; `inf` and `nan` are words of numbers too.
 pub fn decimal(word: &str) -> Option<f64>
     ensures { ReadsDecimal word.now result }
 {
-    match word.parse::<f64>() {
-        Ok(x) => Some(x),
-        Err(_) => None,
-    }
+    word.parse().ok()
 }
 
-// The character that writes a digit.
+// The character that writes a digit, as a byte: `char::from_digit` answers a `char` in an `Option`.
 fn digit_char(digit: u8) -> u8
     requires { digit < 16 }
     ensures { result ≡ digit_char digit }
@@ -69,13 +75,15 @@ fn digit_char(digit: u8) -> u8
     }
 }
 
-// The bit pattern of x as sixteen hexadecimal digits, the most significant first.
+// The bit pattern of x as sixteen hexadecimal digits, the most significant first. The clause of no
+// Display could say that they are read back as x.
 pub fn pattern_digits(x: f64) -> [u8; 16]
     ensures digits { result ≡ pattern_digits x }
     ensures reads_back { pattern_of result ≡ Some x }
 {
     let mut digits = [0; 16];
-    let mut rest = f64_to_bits_with_nan(x);
+    let mut rest = Pattern::from(x).bits;
+    // By index: a proof knows nothing of elements that were written behind `iter_mut().rev()`.
     for i in (0..16).rev() {
         digits[i] = digit_char((rest % 16) as u8);
         rest /= 16;
@@ -83,56 +91,55 @@ pub fn pattern_digits(x: f64) -> [u8; 16]
     digits
 }
 
-// The value of a hexadecimal digit.
-fn digit_value(byte: u8) -> Option<u8>
-    ensures { result ≡ (if nat_lt (digit_value byte) 16 then Some (digit_value byte) else None) }
-{
-    match byte {
-        b'0'..=b'9' => Some(byte - b'0'),
-        b'a'..=b'f' => Some(byte - b'a' + 10),
-        b'A'..=b'F' => Some(byte - b'A' + 10),
-        _ => None,
-    }
-}
-
-// The number that at most sixteen hexadecimal digits write.
+// The number that at most sixteen hexadecimal digits write. Digit by digit: `from_str_radix` takes a
+// plus before them too.
 fn number_of(digits: &[u8]) -> Option<u64>
     requires { length digits.now ≤ 16 }
     ensures { result ≡ (if hexadecimal digits.now then Some (digits_value 16 digits.now) else None) }
 {
     let mut number = 0;
     for byte in digits {
-        let digit = digit_value(*byte)?;
+        let digit = char::from(*byte).to_digit(16)?;
         number = number * 16 + u64::from(digit);
     }
     Some(number)
 }
 
-// The float whose bit pattern sixteen hexadecimal digits write.
+// The float whose bit pattern sixteen hexadecimal digits write. The float and no `Pattern`: its
+// readers reckon with it, and a NaN may be written by other bits than its one pattern.
+#[tactic(auto, unfolding(crate::specs::Patterns::pattern_of))]
 pub fn pattern_of(text: &str) -> Option<f64>
     ensures { result ≡ pattern_of text.now }
 {
     if text.len() != 16 {
         return None;
     }
-    match number_of(text.as_bytes()) {
-        Some(bits) => Some(f64_from_bits_with_nan(bits)),
-        None => None,
+    // By a closure: a proof cannot name the library's function where it is handed over itself.
+    number_of(text.as_bytes()).map(|bits| f64_from_bits_with_nan(bits))
+}
+
+// The bit pattern of a float; a NaN has the one pattern.
+#[derive(Clone, Copy, PartialEq, Eq, Debug, Hash)]
+pub struct Pattern {
+    pub bits: u64,
+}
+
+impl From<f64> for Pattern {
+    ghost from_gives = { λ x p. p.bits ≡ to_bits binary64 x };
+
+    fn from(x: f64) -> Pattern {
+        Pattern {
+            bits: f64_to_bits_with_nan(x),
+        }
     }
 }
 
-// A float that prints as its bit pattern.
-#[derive(Clone, Copy)]
-pub struct Pattern(pub f64);
-
+// Sixteen hexadecimal digits.
 impl fmt::Display for Pattern {
-    ghost output = { λ p. Some (pattern_digits p.0) };
+    ghost output = { λ p. Some (hex_digits 16 p.bits) };
 
     fn fmt<W: fmt::Write>(&self, f: &mut fmt::Formatter<W>) -> fmt::Result {
-        let digits = pattern_digits(self.0);
-        match from_utf8(&digits) {
-            Ok(text) => write!(f, "{text}"),
-            Err(_) => Err(fmt::Error),
-        }
+        let bits = self.bits;
+        write!(f, "{bits:016x}")
     }
 }

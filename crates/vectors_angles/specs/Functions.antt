@@ -1,5 +1,5 @@
 -- The functions of the lists by name, and what each answers: two floats, the second +0 where there is one answer. A function of one argument takes the first. Assumes nothing.
-use Rattle.std.specs.Prelude.{◌≡◌, ℕ, List, pos, codes, Option, MatchOption, ◌≢◌, Float}
+use Rattle.std.specs.Prelude.{ℕ, List, pos, codes, Float}
 use Rattle.std.specs.Float.Ieee.{of_int}
 use Rattle.std.specs.Float.{sqrt, binary64}
 use Rattle.floats.specs.Arithmetic.{bits}
@@ -14,19 +14,19 @@ use Rattle.vectors_angles.specs.declared.functions.Function.TheVariants.{Sum, An
 abbrev none : Float
 none = bits 0
 
-abbrev pub answers_of : Function → Float → Float → Float × Float
-answers_of Sum x y = (Sums.high x y, Sums.low x y)
-answers_of AngRound x y = (ang_round x, none)
-answers_of Remainder x y = (remainder_of x y, none)
-answers_of AngNormalize x y = (ang_normalize x, none)
-answers_of LatFix x y = (lat_fix x, none)
-answers_of AngDiff x y = (ang_diff x y, ang_diff_error x y)
-answers_of Transit x y = (of_int binary64 (transit_of x y), none)
-answers_of Remquo x y = (rest_by90 x, of_int binary64 (pos (quotient_by90 x)))
-answers_of Larger x y = (larger_of x y, none)
-answers_of Smaller x y = (smaller_of x y, none)
-answers_of CopySign x y = (signed x y, none)
-answers_of Root x y = (sqrt binary64 x, none)
+abbrev pub answers_of_angles : Function → Float → Float → Float × Float
+answers_of_angles Sum x y = (Sums.high x y, Sums.low x y)
+answers_of_angles AngRound x y = (ang_round x, none)
+answers_of_angles Remainder x y = (remainder_of x y, none)
+answers_of_angles AngNormalize x y = (ang_normalize x, none)
+answers_of_angles LatFix x y = (lat_fix x, none)
+answers_of_angles AngDiff x y = (ang_diff x y, ang_diff_error x y)
+answers_of_angles Transit x y = (of_int binary64 (transit_of x y), none)
+answers_of_angles Remquo x y = (rest_by90 x, of_int binary64 (pos (quotient_by90 x)))
+answers_of_angles Larger x y = (larger_of x y, none)
+answers_of_angles Smaller x y = (smaller_of x y, none)
+answers_of_angles CopySign x y = (signed x y, none)
+answers_of_angles Root x y = (sqrt binary64 x, none)
 
 abbrev pub name_of : Function → List ℕ
 name_of Sum = codes "sum"
@@ -41,7 +41,3 @@ name_of Larger = codes "larger"
 name_of Smaller = codes "smaller"
 name_of CopySign = codes "copysign"
 name_of Root = codes "sqrt"
-
--- the function of that name, or none where no function has it
-abbrev pub Named : List ℕ → Option Function → Type 0
-Named name answer = MatchOption answer ((f : Function) → name_of f ≢ name) (λ f. name_of f ≡ name)

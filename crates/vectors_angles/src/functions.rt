@@ -1,13 +1,15 @@
 // The functions that lists give answers of.
-ghost use Rattle.std.specs.Prelude.{◌≡◌};
-ghost use Rattle.vectors_angles.specs.Functions.{answers_of, Named};
+ghost use Rattle.replay.specs.Names.{Named};
+ghost use Rattle.vectors_angles.specs.Functions.{answers_of_angles, name_of};
 
 use floats::{copysign, larger, remquo, smaller, sqrt, sum};
 use geomath::{ang_diff, ang_normalize, ang_round, lat_fix, remainder};
 use polygon::transit;
+use replay::{Answers, NoSuchFunction};
 use std::num::nearest_i64_to_f64;
+use std::str::FromStr;
 
-#[derive(Clone, Copy)]
+#[derive(Clone, Copy, PartialEq, Eq, Debug, Hash)]
 pub enum Function {
     Sum,
     AngRound,
@@ -23,32 +25,37 @@ pub enum Function {
     Root,
 }
 
-impl Function {
-    // The function whose list has this name.
-    pub fn named(name: &str) -> Option<Function>
-        ensures { Named name.now result }
-    {
+// The function whose list has this name.
+impl FromStr for Function {
+    type Err = NoSuchFunction;
+
+    ghost from_str_gives = { λ name r. Named name_of name r };
+
+    fn from_str(name: &str) -> Result<Function, NoSuchFunction> {
         match name {
-            "sum" => Some(Function::Sum),
-            "ang_round" => Some(Function::AngRound),
-            "remainder" => Some(Function::Remainder),
-            "ang_normalize" => Some(Function::AngNormalize),
-            "lat_fix" => Some(Function::LatFix),
-            "ang_diff" => Some(Function::AngDiff),
-            "transit" => Some(Function::Transit),
-            "remquo" => Some(Function::Remquo),
-            "larger" => Some(Function::Larger),
-            "smaller" => Some(Function::Smaller),
-            "copysign" => Some(Function::CopySign),
-            "sqrt" => Some(Function::Root),
-            _ => None,
+            "sum" => Ok(Function::Sum),
+            "ang_round" => Ok(Function::AngRound),
+            "remainder" => Ok(Function::Remainder),
+            "ang_normalize" => Ok(Function::AngNormalize),
+            "lat_fix" => Ok(Function::LatFix),
+            "ang_diff" => Ok(Function::AngDiff),
+            "transit" => Ok(Function::Transit),
+            "remquo" => Ok(Function::Remquo),
+            "larger" => Ok(Function::Larger),
+            "smaller" => Ok(Function::Smaller),
+            "copysign" => Ok(Function::CopySign),
+            "sqrt" => Ok(Function::Root),
+            _ => Err(NoSuchFunction),
         }
     }
+}
 
-    // The answers at x and y, the second +0 where there is one; a function of one argument takes x.
-    pub fn answers(&self, x: f64, y: f64) -> (f64, f64)
-        ensures { result ≡ answers_of self.now x y }
-    {
+// A function of one argument takes the first, and a lone answer stands before +0. A match and no table
+// of functions: the arms show what each name answers, and a pointer would not.
+impl Answers for Function {
+    ghost answers_of = { answers_of_angles };
+
+    fn answers(&self, x: f64, y: f64) -> (f64, f64) {
         match self {
             Function::Sum => sum(x, y),
             Function::AngRound => (ang_round(x), 0.0),

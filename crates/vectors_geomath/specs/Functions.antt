@@ -1,5 +1,5 @@
 -- The functions of geomath over the series set by name, and what each answers. A function of one argument takes the first; a lone answer stands before +0. Assumes nothing.
-use Rattle.std.specs.Prelude.{◌≡◌, ℕ, ◌+◌, true, false, List, drop, codes, Option, MatchOption, ◌≢◌, slice_index_or, Float}
+use Rattle.std.specs.Prelude.{ℕ, ◌+◌, true, false, List, drop, codes, slice_index_or, Float}
 use Rattle.std.specs.Float.{nan}
 use Rattle.floats.specs.Arithmetic.{bits}
 use Rattle.functions.specs.Series.{series}
@@ -56,7 +56,3 @@ name_of C1f56 = codes "C1f56"
 name_of C2f12 = codes "C2f12"
 name_of C2f34 = codes "C2f34"
 name_of C2f56 = codes "C2f56"
-
--- the function of that name, or none where no function has it
-abbrev pub Named : List ℕ → Option Function → Type 0
-Named name answer = MatchOption answer ((f : Function) → name_of f ≢ name) (λ f. name_of f ≡ name)

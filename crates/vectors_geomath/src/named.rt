@@ -1,13 +1,15 @@
 // The functions of geomath over the series set, by the names of their lists.
 ghost use Rattle.std.specs.Prelude.{◌≡◌, ◌<◌};
-ghost use Rattle.vectors_geomath.specs.Functions.{answers_of_geomath, pair_of, sums_of, Named};
+ghost use Rattle.replay.specs.Names.{Named};
+ghost use Rattle.vectors_geomath.specs.Functions.{answers_of_geomath, pair_of, sums_of, name_of};
 
 use functions::SeriesSet;
-use replay::Answers;
+use replay::{Answers, NoSuchFunction};
 use series::{_A1m1f, _A2m1f, _C1f, _C2f, astroid, atan2d, eatanhe, norm, sin_cos_series, sincosd};
+use std::str::FromStr;
 
 // The coefficients of an expansion are answered two at a time.
-#[derive(Clone, Copy)]
+#[derive(Clone, Copy, PartialEq, Eq, Debug, Hash)]
 pub enum Function {
     Sincosd,
     Atan2d,
@@ -25,32 +27,35 @@ pub enum Function {
     C2f56,
 }
 
-impl Function {
-    // The function whose list has this name.
-    pub fn named(name: &str) -> Option<Function>
-        ensures { Named name.now result }
-    {
+// The function whose list has this name.
+impl FromStr for Function {
+    type Err = NoSuchFunction;
+
+    ghost from_str_gives = { λ name r. Named name_of name r };
+
+    fn from_str(name: &str) -> Result<Function, NoSuchFunction> {
         match name {
-            "sincosd" => Some(Function::Sincosd),
-            "atan2d" => Some(Function::Atan2d),
-            "norm" => Some(Function::Norm),
-            "eatanhe" => Some(Function::Eatanhe),
-            "astroid" => Some(Function::Astroid),
-            "sin_cos_series" => Some(Function::SinCosSeries),
-            "A1m1f" => Some(Function::A1m1f),
-            "A2m1f" => Some(Function::A2m1f),
-            "C1f12" => Some(Function::C1f12),
-            "C1f34" => Some(Function::C1f34),
-            "C1f56" => Some(Function::C1f56),
-            "C2f12" => Some(Function::C2f12),
-            "C2f34" => Some(Function::C2f34),
-            "C2f56" => Some(Function::C2f56),
-            _ => None,
+            "sincosd" => Ok(Function::Sincosd),
+            "atan2d" => Ok(Function::Atan2d),
+            "norm" => Ok(Function::Norm),
+            "eatanhe" => Ok(Function::Eatanhe),
+            "astroid" => Ok(Function::Astroid),
+            "sin_cos_series" => Ok(Function::SinCosSeries),
+            "A1m1f" => Ok(Function::A1m1f),
+            "A2m1f" => Ok(Function::A2m1f),
+            "C1f12" => Ok(Function::C1f12),
+            "C1f34" => Ok(Function::C1f34),
+            "C1f56" => Ok(Function::C1f56),
+            "C2f12" => Ok(Function::C2f12),
+            "C2f34" => Ok(Function::C2f34),
+            "C2f56" => Ok(Function::C2f56),
+            _ => Err(NoSuchFunction),
         }
     }
 }
 
 // Both sums at an angle in degrees, over the coefficients C1 at eps.
+#[tactic(auto, unfolding(series::specs::Expansions::C1f, series::specs::Expansions::coefficients))]
 fn sums_of(eps: f64, degrees: f64) -> (f64, f64)
     ensures { result ≡ sums_of eps degrees }
 {
@@ -62,7 +67,8 @@ fn sums_of(eps: f64, degrees: f64) -> (f64, f64)
     )
 }
 
-// A function of one argument takes the first, and a lone answer stands before +0.
+// A function of one argument takes the first, and a lone answer stands before +0. A match and no table
+// of functions: the arms show what each name answers, and a pointer would not.
 impl Answers for Function {
     ghost answers_of = { answers_of_geomath };
 

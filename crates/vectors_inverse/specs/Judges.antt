@@ -11,10 +11,10 @@ use Rattle.geodesic.specs.Answers.{answered, edge_of}
 use Rattle.geodesic.specs.Shapes.{shape_refusal}
 use Rattle.inverse.specs.Inverse.{inverse, inverse_azi}
 use Rattle.inverse.specs.declared.problem.Inverse.{Inverse}
-use Rattle.inverse.specs.declared.problem.InverseAzi.{InverseAzi}
+use Rattle.inverse.specs.declared.problem.Bearings.{Bearings}
+use Rattle.inverse.specs.declared.problem.Directions.{Directions}
 use Rattle.surface.specs.declared.refusals.Refusal.{Refusal}
-use Rattle.text.specs.Patterns.{pattern_of}
-use Rattle.text.specs.Words.{first_word, after_word}
+use Rattle.text.specs.Rows.{patterns_of}
 use Rattle.vectors_inverse.specs.declared.rows.Ends.{Ends}
 use Rattle.vectors_inverse.specs.Lists.{everything}
 use Rattle.vectors_inverse.specs.Outlines.{outline_agrees}
@@ -23,11 +23,11 @@ use Rattle.vectors_inverse.specs.Rows.{row_ends, after_four, writes}
 -- ---- bit by bit
 
 -- the figures in the order of a list, the count of evaluations last
-abbrev pub figures_of : Inverse → List Float
+abbrev pub figures_of : Inverse Directions → List Float
 figures_of r =
-    r.a12 ∷ r.s12 ∷ r.salp1 ∷ r.calp1 ∷ r.salp2 ∷ r.calp2 ∷ r.m12 ∷ r.M12 ∷ r.M21 ∷ r.S12 ∷ of_int binary64 (pos r.evaluations) ∷ []
+    r.a12 ∷ r.s12 ∷ r.directions.salp1 ∷ r.directions.calp1 ∷ r.directions.salp2 ∷ r.directions.calp2 ∷ r.m12 ∷ r.M12 ∷ r.M21 ∷ r.S12 ∷ of_int binary64 (pos r.evaluations) ∷ []
 
-abbrev pub writes_figures : Result Inverse Refusal → List ℕ → Bool
+abbrev pub writes_figures : Result (Inverse Directions) Refusal → List ℕ → Bool
 writes_figures (Ok r) text = writes (figures_of r) text
 writes_figures (Err e) text = false
 
@@ -55,12 +55,8 @@ outline_meets winding sign line = outline_unless (shape_refusal series wgs84_a w
 
 -- ---- within a tolerance: 10^-11 degrees for a bearing, 10^-8 metres for a length
 
-abbrev pub is_within : Option Float → Float → Float → Bool
-is_within None x tolerance = false
-is_within (Some y) x tolerance = float_with_sign false (y ⊖ x) ≼ tolerance
-
-abbrev pub is_near : List ℕ → Float → Float → Bool
-is_near word x tolerance = is_within (pattern_of word) x tolerance
+abbrev pub is_near : Float → Float → Float → Bool
+is_near y x tolerance = float_with_sign false (y ⊖ x) ≼ tolerance
 
 abbrev pub bearing_tolerance : Float
 bearing_tolerance = bits 0x3da5fd7fe1796495
@@ -68,19 +64,27 @@ bearing_tolerance = bits 0x3da5fd7fe1796495
 abbrev pub length_tolerance : Float
 length_tolerance = bits 0x3e45798ee2308c3a
 
-abbrev pub near_solved : InverseAzi → List ℕ → Bool
-near_solved r row =
-    is_near (first_word row) r.azi1 bearing_tolerance && is_near (first_word (after_word row)) r.azi2 bearing_tolerance
-    && is_near (first_word (after_word (after_word row))) r.s12 length_tolerance
+abbrev pub near_figures : Inverse Bearings → Option (List Float) → Bool
+near_figures r (Some (azi1 ∷ azi2 ∷ s12 ∷ [])) =
+    is_near azi1 r.directions.azi1 bearing_tolerance && is_near azi2 r.directions.azi2 bearing_tolerance && is_near s12 r.s12 length_tolerance
+near_figures r _ = false
 
-abbrev pub near_answer : Result InverseAzi Refusal → List ℕ → Bool
+-- the first three words of the row are patterns, of the bearings and the length within the tolerances
+abbrev pub near_solved : Inverse Bearings → List ℕ → Bool
+near_solved r row = near_figures r (patterns_of 3 row)
+
+abbrev pub near_answer : Result (Inverse Bearings) Refusal → List ℕ → Bool
 near_answer (Ok r) text = near_solved r text
 near_answer (Err e) text = false
 
+-- the text begins with the bearings and the length of the geodesic between the ends
+abbrev pub near_ends : Ellipsoid → Ends → List ℕ → Bool
+near_ends E e text =
+    near_answer (answered e.lat1 e.lon1 e.lat2 e.lon2 (inverse_azi series E everything e.lat1 e.lon1 e.lat2 e.lon2)) text
+
 abbrev pub near_pair : Ellipsoid → Option Ends → List ℕ → Bool
 near_pair E None text = false
-near_pair E (Some e) text =
-    near_answer (answered e.lat1 e.lon1 e.lat2 e.lon2 (inverse_azi series E everything e.lat1 e.lon1 e.lat2 e.lon2)) text
+near_pair E (Some e) text = near_ends E e text
 
 -- the line is two points and the bearings and the length of the geodesic between them
 abbrev pub rounded_agrees : Ellipsoid → List ℕ → Bool

@@ -2,4 +2,3 @@ pub mod Rows
 pub mod Lists
 pub mod Outlines
 pub mod Judges
-pub mod Counts

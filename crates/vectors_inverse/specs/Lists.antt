@@ -1,6 +1,7 @@
 -- The lists by name, and what each of them is about: an ellipsoid by its flattening and a mask, or polygons with a winding and a sign. Assumes nothing.
-use Rattle.std.specs.Prelude.{◌≡◌, ℕ, true, false, List as Texts, codes, Option, MatchOption, ◌≢◌, Float}
+use Rattle.std.specs.Prelude.{ℕ, Bool, true, false, List as Texts, codes, Float}
 use Rattle.std.specs.Float.Ieee.{neg}
+use Rattle.area.specs.declared.Winding.{Winding}
 use Rattle.area.specs.declared.Winding.TheVariants.{Clockwise, CounterClockwise}
 use Rattle.floats.specs.Arithmetic.{bits}
 use Rattle.ellipsoid.specs.Capabilities.{distance, polygon_area}
@@ -25,10 +26,6 @@ name_of SignedClockwise = codes "signed_clockwise"
 name_of UnsignedClockwise = codes "unsigned_clockwise"
 name_of Geodsolve = codes "geodsolve"
 
--- the list of that name, or none where no list has it
-abbrev pub Named : Texts ℕ → Option List → Type 0
-Named name answer = MatchOption answer ((l : List) → name_of l ≢ name) (λ l. name_of l ≡ name)
-
 -- every figure but longitudes that are not reduced
 abbrev pub everything : ℕ
 everything = 0x7f9f
@@ -43,6 +40,9 @@ minus_fiftieth = neg fiftieth
 abbrev pub moderate : Float
 moderate = bits 0x3f7b4e81b4e81b4f
 
+abbrev pub outlines : Winding → Bool → Subject
+outlines winding sign = Outlines (record { winding = winding; sign = sign })
+
 abbrev pub subject_of : List → Subject
 subject_of Wgs84 = Pairs wgs84_f everything
 subject_of Sphere = Pairs (bits 0) everything
@@ -52,8 +52,8 @@ subject_of Moderate = Pairs moderate everything
 subject_of Nothing = Pairs wgs84_f 0
 subject_of Distance = Pairs wgs84_f distance
 subject_of Outline = Pairs wgs84_f polygon_area
-subject_of Signed = Outlines CounterClockwise true
-subject_of Unsigned = Outlines CounterClockwise false
-subject_of SignedClockwise = Outlines Clockwise true
-subject_of UnsignedClockwise = Outlines Clockwise false
+subject_of Signed = outlines CounterClockwise true
+subject_of Unsigned = outlines CounterClockwise false
+subject_of SignedClockwise = outlines Clockwise true
+subject_of UnsignedClockwise = outlines Clockwise false
 subject_of Geodsolve = Rounded

@@ -2,29 +2,23 @@
 use Rattle.std.specs.Prelude.{ℕ, Bool, true, false, ◌&&◌, List, [], ◌∷◌, Some, None, Option, Float}
 use Rattle.replay.specs.Verdicts.{same_pattern}
 use Rattle.text.specs.Patterns.{pattern_of}
+use Rattle.text.specs.Rows.{patterns_of, after_words}
 use Rattle.text.specs.Words.{first_word, after_word}
 use Rattle.vectors_inverse.specs.declared.rows.Ends.{Ends}
 
-abbrev pub ends_of : Option Float → Option Float → Option Float → Option Float → Option Ends
-ends_of None lon1 lat2 lon2 = None
-ends_of (Some lat1) None lat2 lon2 = None
-ends_of (Some lat1) (Some lon1) None lon2 = None
-ends_of (Some lat1) (Some lon1) (Some lat2) None = None
-ends_of (Some lat1) (Some lon1) (Some lat2) (Some lon2) = Some (record { lat1 = lat1; lon1 = lon1; lat2 = lat2; lon2 = lon2 })
+abbrev pub ends_of : Option (List Float) → Option Ends
+ends_of (Some (lat1 ∷ lon1 ∷ lat2 ∷ lon2 ∷ [])) = Some (record { lat1 = lat1; lon1 = lon1; lat2 = lat2; lon2 = lon2 })
+ends_of _ = None
 
--- the ends that four words write, where each of them is a pattern
-abbrev pub ends_from : List ℕ → List ℕ → List ℕ → List ℕ → Option Ends
-ends_from lat1 lon1 lat2 lon2 = ends_of (pattern_of lat1) (pattern_of lon1) (pattern_of lat2) (pattern_of lon2)
-
-abbrev pub after_three : List ℕ → List ℕ
-after_three text = after_word (after_word (after_word text))
-
--- the ends that a row begins with, and what follows them
+-- the ends that a row begins with, where each of its first four words is a pattern, and what follows them
 abbrev pub row_ends : List ℕ → Option Ends
-row_ends row = ends_from (first_word row) (first_word (after_word row)) (first_word (after_word (after_word row))) (first_word (after_three row))
+row_ends row = ends_of (patterns_of 4 row)
 
 abbrev pub after_four : List ℕ → List ℕ
-after_four row = after_word (after_three row)
+after_four row = after_words 4 row
+
+abbrev pub after_three : List ℕ → List ℕ
+after_three text = after_words 3 text
 
 abbrev pub is_same : Option Float → Float → Bool
 is_same None x = false

@@ -1,14 +1,17 @@
 // The lists by name, and what each of them is about.
-ghost use Rattle.std.specs.Prelude.{◌≡◌};
-ghost use Rattle.vectors_inverse.specs.Lists.{Named, subject_of};
+ghost use Rattle.std.specs.Prelude.{◌≡◌, Some, codes};
+ghost use Rattle.replay.specs.Names.{Named};
+ghost use Rattle.vectors_inverse.specs.Lists.{name_of, outlines, subject_of};
 
+use crate::outlines::Outlines;
 use area::Winding;
+use ellipsoid::shape::WGS84_F;
 use geodesic::capability::{ALL, DISTANCE, EMPTY, POLYGONAREA_MASK};
+use std::error::Error;
+use std::fmt;
+use std::str::FromStr;
 
-// The flattening of WGS84.
-pub const WGS84_F: f64 = 0.0033528106647474805;
-
-#[derive(Clone, Copy)]
+#[derive(Clone, Copy, PartialEq, Eq, Debug, Hash)]
 pub enum List {
     // all figures on an ellipsoid
     Wgs84,
@@ -29,39 +32,57 @@ pub enum List {
     Geodsolve,
 }
 
-#[derive(Clone, Copy)]
+#[derive(Clone, Copy, PartialEq, Debug)]
 pub enum Subject {
     // geodesics on the ellipsoid of the flattening f, under a mask
     Pairs(f64, u64),
-    // polygons, with the sense of traversal that counts as positive, with or without a sign
-    Outlines(Winding, bool),
+    // polygons on WGS84
+    Outlines(Outlines),
     // geodesics whose figures are rounded
     Rounded,
 }
 
-impl List {
-    // The list of this name.
-    pub fn named(name: &str) -> Option<List>
-        ensures { Named name.now result }
-    {
+// A name that no list has; `NoSuchFunction` of `replay` is told in other words.
+#[derive(Clone, Copy, PartialEq, Eq, Debug, Hash)]
+pub struct NoSuchList;
+
+impl fmt::Display for NoSuchList {
+    ghost output = { λ _. Some (codes "no such list") };
+
+    fn fmt<W: fmt::Write>(&self, f: &mut fmt::Formatter<W>) -> fmt::Result {
+        write!(f, "no such list")
+    }
+}
+
+impl Error for NoSuchList {}
+
+// The list of this name.
+impl FromStr for List {
+    type Err = NoSuchList;
+
+    ghost from_str_gives = { λ name r. Named name_of name r };
+
+    fn from_str(name: &str) -> Result<List, NoSuchList> {
         match name {
-            "wgs84" => Some(List::Wgs84),
-            "sphere" => Some(List::Sphere),
-            "oblate" => Some(List::Oblate),
-            "prolate" => Some(List::Prolate),
-            "moderate" => Some(List::Moderate),
-            "nothing" => Some(List::Nothing),
-            "distance" => Some(List::Distance),
-            "outline" => Some(List::Outline),
-            "signed" => Some(List::Signed),
-            "unsigned" => Some(List::Unsigned),
-            "signed_clockwise" => Some(List::SignedClockwise),
-            "unsigned_clockwise" => Some(List::UnsignedClockwise),
-            "geodsolve" => Some(List::Geodsolve),
-            _ => None,
+            "wgs84" => Ok(List::Wgs84),
+            "sphere" => Ok(List::Sphere),
+            "oblate" => Ok(List::Oblate),
+            "prolate" => Ok(List::Prolate),
+            "moderate" => Ok(List::Moderate),
+            "nothing" => Ok(List::Nothing),
+            "distance" => Ok(List::Distance),
+            "outline" => Ok(List::Outline),
+            "signed" => Ok(List::Signed),
+            "unsigned" => Ok(List::Unsigned),
+            "signed_clockwise" => Ok(List::SignedClockwise),
+            "unsigned_clockwise" => Ok(List::UnsignedClockwise),
+            "geodsolve" => Ok(List::Geodsolve),
+            _ => Err(NoSuchList),
         }
     }
+}
 
+impl List {
     // What the list is about.
     pub fn subject(&self) -> Subject
         ensures { result ≡ subject_of self.now }
@@ -75,11 +96,18 @@ impl List {
             List::Nothing => Subject::Pairs(WGS84_F, EMPTY),
             List::Distance => Subject::Pairs(WGS84_F, DISTANCE),
             List::Outline => Subject::Pairs(WGS84_F, POLYGONAREA_MASK),
-            List::Signed => Subject::Outlines(Winding::CounterClockwise, true),
-            List::Unsigned => Subject::Outlines(Winding::CounterClockwise, false),
-            List::SignedClockwise => Subject::Outlines(Winding::Clockwise, true),
-            List::UnsignedClockwise => Subject::Outlines(Winding::Clockwise, false),
+            List::Signed => outlines(Winding::CounterClockwise, true),
+            List::Unsigned => outlines(Winding::CounterClockwise, false),
+            List::SignedClockwise => outlines(Winding::Clockwise, true),
+            List::UnsignedClockwise => outlines(Winding::Clockwise, false),
             List::Geodsolve => Subject::Rounded,
         }
     }
+}
+
+// What a list of polygons is about.
+fn outlines(winding: Winding, sign: bool) -> Subject
+    ensures { result ≡ outlines winding sign }
+{
+    Subject::Outlines(Outlines { winding, sign })
 }

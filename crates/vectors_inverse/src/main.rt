@@ -2,70 +2,40 @@
 // list. Bit by bit, but for the list of GeographicLib's answers.
 #![tactic(auto)]
 
-mod counts;
 mod judges;
 mod lists;
 mod outlines;
 mod rows;
 
 use anyhow::anyhow;
-use counts::count_lines;
+use ellipsoid::shape::{WGS84_A, WGS84_F};
 use functions::SeriesSet;
 use geodesic::Geodesic;
-use judges::{Judge, Outlines, Pairs, Rounded};
+use judges::{Pairs, Rounded};
 use lists::{List, Subject};
-use std::{env, fs};
+use replay::{Replayed, replay, report};
 
-// The equatorial radius of each list.
-const RADIUS: f64 = 6378137.0;
-
-// Counts the lines of a list, and prints how many differ.
-fn report<J: Judge>(rt: &HostRuntime, name: &str, how: &str, judge: &J) -> anyhow::Result<()> {
-    let path = format!(in rt.alloc(); "{name}.txt")?;
-    let text = fs::read_to_string(rt, path.as_str())?;
-    let tally = count_lines(judge, text.as_str());
-    let cases = tally.cases;
-    let differing = tally.differing;
-    println!(rt; "{name} {cases} cases, {differing} {how}")?;
-    if tally.first > 0 {
-        let first = tally.first;
-        println!(rt; "{name} first at line {first}")?;
-    }
-    Ok(())
-}
-
+// Each list has the equatorial radius of WGS84. No list's ellipsoid is refused, so no number is told.
 fn geodesic_of(f: f64) -> anyhow::Result<Geodesic<SeriesSet>> {
-    match Geodesic::new(SeriesSet, RADIUS, f) {
-        Ok(geodesic) => Ok(geodesic),
-        Err(_) => Err(anyhow!("the ellipsoid is refused")),
-    }
+    Geodesic::new(SeriesSet, WGS84_A, f).map_err(|_| anyhow!("the ellipsoid is refused"))
 }
 
-fn replay_list(rt: &HostRuntime, name: &str) -> anyhow::Result<()> {
-    let Some(list) = List::named(name) else {
-        println!(rt; "{name}: no such list")?;
-        return Ok(());
-    };
-    match list.subject() {
-        Subject::Pairs(f, mask) => {
-            let geodesic = geodesic_of(f)?;
-            report(rt, name, "differ", &Pairs { geodesic, mask })
-        }
-        Subject::Outlines(winding, sign) => report(rt, name, "differ", &Outlines { winding, sign }),
-        Subject::Rounded => {
-            let geodesic = geodesic_of(lists::WGS84_F)?;
-            report(rt, name, "beyond the tolerance", &Rounded { geodesic })
+impl Replayed for List {
+    fn report(&self, rt: &HostRuntime, name: &str) -> anyhow::Result<()> {
+        match self.subject() {
+            Subject::Pairs(f, mask) => {
+                let geodesic = geodesic_of(f)?;
+                report(rt, name, "differ", &Pairs { geodesic, mask })
+            }
+            Subject::Outlines(outlines) => report(rt, name, "differ", &outlines),
+            Subject::Rounded => {
+                let geodesic = geodesic_of(WGS84_F)?;
+                report(rt, name, "beyond the tolerance", &Rounded { geodesic })
+            }
         }
     }
-}
-
-fn run(rt: &HostRuntime) -> anyhow::Result<()> {
-    for name in env::args(rt)?.skip(1) {
-        replay_list(rt, name.as_str())?;
-    }
-    Ok(())
 }
 
 fn main(rt: HostRuntime) -> anyhow::Result<()> {
-    run(&rt)
+    replay::<List>(&rt)
 }

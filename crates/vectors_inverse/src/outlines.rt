@@ -12,16 +12,15 @@ use geodesic::Geodesic;
 use polygon::{Figures, PolygonArea};
 use text::{pattern_of, split_word};
 
-// Offers the point of two words to the polygon; words that are no patterns are no point.
+// Offers the point of two words to the polygon; words that are no patterns are no point. That the
+// surface and the winding stay is a clause here and in `feed`, since no type says it of a `&mut`.
 fn offer(polygon: &mut PolygonArea<Geodesic<SeriesSet>>, lat: &str, lon: &str)
     ensures traverse { polygon.new.traverse ≡ offered_words (edge_of series polygon.old.surface.shape) polygon.old.traverse lat.now lon.now }
     ensures surface { polygon.new.surface ≡ polygon.old.surface }
     ensures winding { polygon.new.winding ≡ polygon.old.winding }
 {
-    if let Some(lat) = pattern_of(lat) {
-        if let Some(lon) = pattern_of(lon) {
-            let _ = polygon.add_point(lat, lon);
-        }
+    if let (Some(lat), Some(lon)) = (pattern_of(lat), pattern_of(lon)) {
+        let _ = polygon.add_point(lat, lon);
     }
 }
 
@@ -32,6 +31,7 @@ fn feed(polygon: &mut PolygonArea<Geodesic<SeriesSet>>, text: &str)
     ensures winding { polygon.new.winding ≡ polygon.old.winding }
 {
     let mut rest = text;
+    // A text has no more points than bytes.
     for _ in 0..text.len() {
         let (lat, after) = split_word(rest);
         if lat.is_empty() {
@@ -47,19 +47,23 @@ fn feed(polygon: &mut PolygonArea<Geodesic<SeriesSet>>, text: &str)
 fn row_of(figures: Figures) -> [f64; 3]
     ensures { result ≡ row_of figures }
 {
-    [figures.perimeter, figures.area, figures.count as f64]
+    [figures.perimeter, figures.area, f64::from(figures.count)]
 }
 
-// Whether a line is the perimeter, the area and the count of the polygon of its points.
-pub fn outline_agrees(
-    surface: Geodesic<SeriesSet>,
-    winding: Winding,
-    sign: bool,
-    line: &str,
-) -> bool
-    ensures { result ≡ outline_agrees (edge_of series surface.shape) (whole_of surface.shape) winding sign line.now }
-{
-    let mut polygon = PolygonArea::new(surface, winding);
-    feed(&mut polygon, after_three(line));
-    writes(&row_of(polygon.compute(sign)), line)
+// Polygons, with the sense of traversal that counts as positive, with or without a sign.
+#[derive(Clone, Copy, PartialEq, Eq, Debug, Hash)]
+pub struct Outlines {
+    pub winding: Winding,
+    pub sign: bool,
+}
+
+impl Outlines {
+    // Whether a line is the perimeter, the area and the count of the polygon of its points.
+    pub fn agree(self, surface: Geodesic<SeriesSet>, line: &str) -> bool
+        ensures { result ≡ outline_agrees (edge_of series surface.shape) (whole_of surface.shape) self.winding self.sign line.now }
+    {
+        let mut polygon = PolygonArea::new(surface, self.winding);
+        feed(&mut polygon, after_three(line));
+        writes(&row_of(polygon.compute(self.sign)), line)
+    }
 }

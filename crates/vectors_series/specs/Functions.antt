@@ -1,5 +1,5 @@
 -- The functions of the series set by name, and what each answers. A function of one argument takes the first; the second answer is +0. Assumes nothing.
-use Rattle.std.specs.Prelude.{◌≡◌, ℕ, List, codes, Option, MatchOption, ◌≢◌, Float}
+use Rattle.std.specs.Prelude.{ℕ, List, codes, Float}
 use Rattle.floats.specs.Arithmetic.{bits}
 use Rattle.functions.specs.Series.{series}
 use Rattle.vectors_series.specs.declared.named.Function.{Function}
@@ -25,7 +25,3 @@ name_of Atan = codes "atan"
 name_of Atanh = codes "atanh"
 name_of Hypot = codes "hypot"
 name_of Cbrt = codes "cbrt"
-
--- the function of that name, or none where no function has it
-abbrev pub Named : List ℕ → Option Function → Type 0
-Named name answer = MatchOption answer ((f : Function) → name_of f ≢ name) (λ f. name_of f ≡ name)

@@ -1,11 +1,12 @@
 // The functions of the series set, by the names of their lists.
-ghost use Rattle.std.specs.Prelude.{◌≡◌};
-ghost use Rattle.vectors_series.specs.Functions.{answers_of_series, Named};
+ghost use Rattle.replay.specs.Names.{Named};
+ghost use Rattle.vectors_series.specs.Functions.{answers_of_series, name_of};
 
 use functions::{FunctionSet, SeriesSet};
-use replay::Answers;
+use replay::{Answers, NoSuchFunction};
+use std::str::FromStr;
 
-#[derive(Clone, Copy)]
+#[derive(Clone, Copy, PartialEq, Eq, Debug, Hash)]
 pub enum Function {
     Sin,
     Cos,
@@ -16,25 +17,28 @@ pub enum Function {
     Cbrt,
 }
 
-impl Function {
-    // The function whose list has this name.
-    pub fn named(name: &str) -> Option<Function>
-        ensures { Named name.now result }
-    {
+// The function whose list has this name.
+impl FromStr for Function {
+    type Err = NoSuchFunction;
+
+    ghost from_str_gives = { λ name r. Named name_of name r };
+
+    fn from_str(name: &str) -> Result<Function, NoSuchFunction> {
         match name {
-            "sin" => Some(Function::Sin),
-            "cos" => Some(Function::Cos),
-            "atan2" => Some(Function::Atan2),
-            "atan" => Some(Function::Atan),
-            "atanh" => Some(Function::Atanh),
-            "hypot" => Some(Function::Hypot),
-            "cbrt" => Some(Function::Cbrt),
-            _ => None,
+            "sin" => Ok(Function::Sin),
+            "cos" => Ok(Function::Cos),
+            "atan2" => Ok(Function::Atan2),
+            "atan" => Ok(Function::Atan),
+            "atanh" => Ok(Function::Atanh),
+            "hypot" => Ok(Function::Hypot),
+            "cbrt" => Ok(Function::Cbrt),
+            _ => Err(NoSuchFunction),
         }
     }
 }
 
-// A function of one argument takes the first, and the second answer is +0.
+// A function of one argument takes the first, and the second answer is +0. A match and no table of
+// functions: the arms show what each name answers, and a pointer would not.
 impl Answers for Function {
     ghost answers_of = { answers_of_series };
 

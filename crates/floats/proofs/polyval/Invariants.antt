@@ -1,6 +1,6 @@
-use Rattle.std.proofs.Common.{◌≡◌, ◌-◌, length, take, drop}
+use Rattle.std.proofs.Common.{◌≡◌, drop}
 use Rattle.floats.specs.Polynomials.{horner, polynomial}
 use Rattle.floats.proofs.polyval.Given as goal
 
-abbrev pub invariant-loop-val : goal.invariant-loop-val
-invariant-loop-val l = horner l.x l.y (drop l.val-index (take (length l.p - 1) (drop 1 l.p))) ≡ polynomial l.x l.p
+abbrev pub invariant-loop-c : goal.invariant-loop-c
+invariant-loop-c l = horner l.x l.y (drop l.c-index l.rest) ≡ polynomial l.x l.p

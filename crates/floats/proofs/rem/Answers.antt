@@ -5,22 +5,19 @@ use Rattle.floats.specs.Roots.{units}
 use Rattle.floats.specs.Rests.{Size}
 use Rattle.floats.proofs.Rests.{not_finite_rest, nan_rest, rest_by_infinity, rest_by_zero, finite_of, tested_zero, some_units, abs_size, abs_units, rest_of_plus, rest_of_minus}
 use Rattle.floats.proofs.rem.Goals as goal
-use Rattle.floats.proofs.rem.Goals.{then-not-is_finite-via-then-not-is_finite, then-not-is_finite-via-else-not-is_finite+then-is_nan}
+use Rattle.floats.proofs.rem.Goals.{then-not-is_finite-via-then-not-is_finite, then-not-is_finite-via-else-not-is_finite+then-is_nan, then-not-is_finite-via-else-not-is_finite+else-is_nan+then-y}
 
 pub returns-then-not-is_finite : goal.returns-then-not-is_finite
 returns-then-not-is_finite c =
     elim c.then-not-is_finite.branch [
       | then-not-is_finite-via-then-not-is_finite w ↦ not_finite_rest c.args.x c.args.y (sym c.is_finite.ensures.value ∙ w.if-not-is_finite.true)
       | then-not-is_finite-via-else-not-is_finite+then-is_nan w ↦ nan_rest c.args.x c.args.y (sym w.is_nan.ensures.value ∙ w.if-is_nan.true)
+      | then-not-is_finite-via-else-not-is_finite+else-is_nan+then-y w ↦
+          rest_by_zero c.args.x c.args.y c.well_formed.1.0.1 (sym c.is_finite.ensures.value ∙ w.if-not-is_finite.false) (tested_zero c.args.y true w.if-y.true)
     ]
 
 pub returns-then-is_infinite : goal.returns-then-is_infinite
 returns-then-is_infinite c = rest_by_infinity c.args.x c.args.y (sym c.is_finite.ensures.value ∙ c.if-not-is_finite.false) (sym c.is_infinite.ensures.value ∙ c.if-is_infinite.true)
-
-pub returns-then-y : goal.returns-then-y
-returns-then-y c =
-    rest_by_zero c.args.x c.args.y c.well_formed.1.0.1 (sym c.is_finite.ensures.value ∙ c.if-not-is_finite.false)
-    (finite_of c.args.y (sym c.is_nan.ensures.value ∙ c.if-is_nan.false) (sym c.is_infinite.ensures.value ∙ c.if-is_infinite.false)) (tested_zero c.args.y true c.if-y.true)
 
 pub rest-size-requires-clause-whole : goal.rest-size-requires-clause-whole
 rest-size-requires-clause-whole c = subst Size (sym c.abs.ensures.value) (abs_size c.args.x c.well_formed.0.1 (sym c.is_finite.ensures.value ∙ c.if-not-is_finite.false))

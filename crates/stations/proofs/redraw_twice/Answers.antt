@@ -1,7 +1,8 @@
 -- The second call finds the row as the first left it.
 use Rattle.std.proofs.Common.{◌≡◌, ◌+◌, ap, ◌∙◌, arith}
 use Rattle.stations.specs.declared.Cost.{Cost}
-use Rattle.stations.specs.Stations.{Drawing, together, redrawn, redrawn_twice}
+use Rattle.stations.specs.Stations.{Drawing, drawing, together, redrawn, redrawn_twice}
+use Rattle.stations.proofs.Costing.{capped_is}
 use Rattle.stations.proofs.redraw_twice.Goals as goal
 
 pub returns : goal.returns
@@ -11,11 +12,19 @@ returns g c =
     let row = c.args.stations.now in
     let count = c.args.count in
     let place = c.args.place in
-    let e = ap (λ l. redrawn edge l count (place + 1)) c.redraw-here.ensures.row in
-    let second : c.redraw-after.result ≡ (redrawn edge (redrawn edge row count place).stations count (place + 1)).cost =
-    c.redraw-after.ensures.cost ∙ ap (λ (d : Drawing). d.cost) e in
+    let then : Drawing → Drawing =
+    λ d. drawing (redrawn edge d.stations count (place + 1)).stations (together d.cost (redrawn edge d.stations count (place + 1)).cost) in
+    let here = c.redraw-here.ensures.few in
+    let after = c.redraw-after.ensures.few in
+    let sum : c.add.result ≡ together c.redraw-here.result c.redraw-after.result =
+    c.add.ensures ∙ capped_is c.redraw-here.result c.redraw-after.result (omega (arith, here.0, after.0)) (omega (arith, here.0, here.1, after.0, after.1)) in
     record {
-      row = c.redraw-after.ensures.row ∙ ap (λ (d : Drawing). d.stations) e;
-      cost = ap (λ (a : Cost). together a c.redraw-after.result) c.redraw-here.ensures.cost ∙ ap (together (redrawn edge row count place).cost) second;
-      few = (omega (arith, c.redraw-here.ensures.few.0, c.redraw-after.ensures.few.0), omega (arith, c.redraw-here.ensures.few.1, c.redraw-after.ensures.few.1));
+      drawing =
+          ap (drawing c.redraw-after.new.stations) sum
+          ∙ ap (λ (d : Drawing). drawing d.stations (together c.redraw-here.result d.cost)) c.redraw-after.ensures.drawing
+          ∙ ap then c.redraw-here.ensures.drawing;
+      few = (
+        omega (arith, ap (λ (x : Cost). x.edges) sum, here.0, after.0),
+        omega (arith, ap (λ (x : Cost). x.edges) sum, ap (λ (x : Cost). x.evaluations) sum, here.1, after.1),
+      );
     }

@@ -1,6 +1,6 @@
 -- The point is taken out, then the station after it is drawn.
 use Rattle.std.proofs.Common.{◌≡◌, ◌-◌, sym, ap, ◌∙◌, arith}
-use Rattle.stations.specs.Stations.{Drawing, unchanged, redrawn, dropped}
+use Rattle.stations.specs.Stations.{unchanged, redrawn, dropped}
 use Rattle.stations.proofs.Redrawing.{used, not_used, dropped_used, dropped_not}
 use Rattle.stations.proofs.remove_point.Goals as goal
 
@@ -10,11 +10,7 @@ returns-then-place-count g c =
     let row = c.args.stations.now in
     let same : dropped edge row c.args.count c.args.place ≡ unchanged row =
     dropped_not edge row c.args.count c.args.place (not_used row c.args.count c.args.place c.then-place-count.either) in
-    record {
-      row = sym (ap (λ (d : Drawing). d.stations) same);
-      cost = sym (ap (λ (d : Drawing). d.cost) same);
-      few = (omega arith, omega arith);
-    }
+    record { drawing = sym same; few = (omega arith, omega arith) }
 
 pub returns : goal.returns
 returns g c =
@@ -24,8 +20,4 @@ returns g c =
     let place = c.args.place in
     let e : redrawn edge c.take_out.new.row (count - 1) place ≡ dropped edge row count place =
     ap (λ l. redrawn edge l (count - 1) place) c.take_out.ensures ∙ sym (dropped_used edge row count place (used row count place c.if-place-count.false c.if-count-stations.false)) in
-    record {
-      row = c.redraw.ensures.row ∙ ap (λ (d : Drawing). d.stations) e;
-      cost = c.redraw.ensures.cost ∙ ap (λ (d : Drawing). d.cost) e;
-      few = c.redraw.ensures.few;
-    }
+    record { drawing = c.redraw.ensures.drawing ∙ e; few = c.redraw.ensures.few }

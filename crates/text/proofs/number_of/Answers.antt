@@ -1,25 +1,26 @@
 -- Each digit takes one place more; a byte that is no digit makes the whole text none.
-use Rattle.std.proofs.Common.{◌≡◌, suc, ◌+◌, ◌*◌, ◌^◌, ◌<◌, true, false, cond, ltb, [], length, get_or, drop, Some, None, sym, ap, ◌∙◌, add-one, arith, drop_of_length-le, ltb-true}
+use Rattle.std.proofs.Common.{◌≡◌, suc, ◌+◌, ◌*◌, ◌^◌, ◌<◌, true, false, cond, [], length, get_or, drop, Some, None, sym, ap, ◌∙◌, subst, add-one, arith, drop_of_length-le}
 use Rattle.std.specs.Str.Parse.{digits_value, digits_value_after}
 use Rattle.std.specs.Char.{digit_value}
 use Rattle.text.specs.Patterns.{hexadecimal}
-use Rattle.text.proofs.Digits.{chosen_some, chosen_none, hexadecimal_more, hexadecimal_not, value_more, digit_more, sixteen_fit}
+use Rattle.text.proofs.Digits.{hexadecimal_more, hexadecimal_not, value_more, digit_more, sixteen_fit}
 use Rattle.text.proofs.number_of.Goals as goal
 
 pub returns-in_err-digit : goal.returns-in_err-digit
 returns-in_err-digit c =
-    let not_digit = chosen_none _ _ c.in_err-digit.ensures in
-    let not-all : hexadecimal c.args.digits.now ≡ false = sym c.loop-byte.invariant.0 ∙ hexadecimal_not c.args.digits.now c.loop-byte.byte-index (omega arith) not_digit in
-    c.from_residual.ensures ∙ sym (ap (λ b. cond b (Some (digits_value 16 c.args.digits.now)) None) not-all)
+    let digits = c.args.digits.now in
+    let not_digit = subst (λ b. digit_value b < 16 → ⊥) c.from.ensures c.in_err-digit.ensures.value in
+    let not-all : hexadecimal digits ≡ false = sym c.loop-byte.invariant.0 ∙ hexadecimal_not digits c.loop-byte.byte-index (omega arith) not_digit in
+    c.from_residual.ensures ∙ sym (ap (λ b. cond b (Some (digits_value 16 digits)) None) not-all)
 
 -- the digit that was read, and the number after it
-read : (c : goal.After-from) → (ltb (digit_value (get_or c.args.digits.now c.loop-byte.byte-index 0)) 16 ≡ true)
-    × (c.from.result ≡ digit_value (get_or c.args.digits.now c.loop-byte.byte-index 0))
-    × (c.loop-byte.number * 16 + c.from.result < 16 ^ suc c.loop-byte.byte-index)
+read : (c : goal.After-from-in-loop-byte) → (digit_value (get_or c.args.digits.now c.loop-byte.byte-index 0) < 16)
+    × (c.from-in-loop-byte.result ≡ digit_value (get_or c.args.digits.now c.loop-byte.byte-index 0))
+    × (c.loop-byte.number * 16 + c.from-in-loop-byte.result < 16 ^ suc c.loop-byte.byte-index)
 read c =
-    let h = chosen_some _ _ _ c.in_ok-digit.ensures in
-    let is = c.from.ensures ∙ h.1 in
-    (h.0, is, digit_more c.loop-byte.number c.from.result c.loop-byte.byte-index c.loop-byte.invariant.2 (omega (arith, ltb-true _ _ h.0)))
+    let h = rw c.from.ensures at c.in_ok-digit.ensures.value in
+    let is = c.from-in-loop-byte.ensures ∙ h.1 in
+    (h.0, is, digit_more c.loop-byte.number c.from-in-loop-byte.result c.loop-byte.byte-index c.loop-byte.invariant.2 (omega arith))
 
 pub overflow_mul-number : goal.overflow_mul-number
 overflow_mul-number c = omega (arith, digit_more c.loop-byte.number 0 c.loop-byte.byte-index c.loop-byte.invariant.2 (omega arith), sixteen_fit (suc c.loop-byte.byte-index) (omega arith))

@@ -1,16 +1,17 @@
--- What std says of a cut at the first newline, as the lines of the text.
-use Rattle.std.proofs.Common.{Some, None, arith}
-use Rattle.std.proofs.lemmas.Str.Pattern.{split_parts}
-use Rattle.text.proofs.Lines.{cut_broken, cut_unbroken}
+-- A text is cut at its first newline.
+use Rattle.std.proofs.Common.{ℕ, List, Option, Bor, refl, arith}
+use Rattle.std.proofs.lemmas.Str.Pattern.{split_once_first}
+use Rattle.text.proofs.Cuts.{cut_either, lines_first, after_line_shorter}
 use Rattle.text.proofs.split_line.Goals as goal
 
-pub returns-in-Some : goal.returns-in-Some
-returns-in-Some c =
-    let parts = split_parts 10 c.args.text.now (Some (c.in-Some.line, c.in-Some.rest)) c.in-Some.ensures.cases (omega arith) in
-    let cut = cut_broken c.args.text.now c.in-Some.line.now c.in-Some.rest.now parts.0 parts.1 in
-    record { line = cut.line_is; rest = cut.rest_is; lines = cut.lines; shorter = cut.shorter }
-
-pub returns-in-None : goal.returns-in-None
-returns-in-None c =
-    let cut = cut_unbroken c.args.text.now (split_parts 10 c.args.text.now None c.in-None.ensures.cases (omega arith)) in
-    record { line = cut.line_is; rest = cut.rest_is; lines = cut.lines; shorter = cut.shorter }
+pub returns : goal.returns
+returns c =
+    let text = c.args.text.now in
+    let o : Option (Bor (List ℕ) × Bor (List ℕ)) = c.split_once.result in
+    let cut = cut_either text o _ _ (refl, refl) c.unwrap_or.ensures (split_once_first 10 text o c.split_once.ensures.cases (omega arith)) in
+    record {
+      line = cut.0;
+      rest = cut.1;
+      lines = rw cut.0 (rw cut.1 (lines_first text));
+      shorter = rw cut.1 (after_line_shorter text);
+    }

@@ -1,4 +1,4 @@
--- The table holds the whole numbers that the definition names.
+-- The table holds the whole numbers that the definition names. Unfolded here, since an attribute names nothing of `lib`.
 use lib.Ieee.{of_bits, of_int}
 use Rattle.ellipsoid.specs.Tables.{coeff_c3}
 use Rattle.ellipsoid.proofs.tables.c3_coefficients.Goals as goal

@@ -5,5 +5,5 @@ use Rattle.ellipsoid.proofs.tables.rows.Given as goal
 
 abbrev pub invariant-loop-k : goal.invariant-loop-k
 invariant-loop-k g v =
-    (take v.k v.values ++ rows_of v.x (drop v.o v.table) (drop v.k v.degrees) ≡ rows_of v.x v.table v.degrees)
-    × (v.o ≤ 257 * v.k) × (length v.values ≡ g.row.N)
+    (take v.k v.value-items ++ rows_of v.x (drop v.o v.table) (drop v.k v.degrees) ≡ rows_of v.x v.table v.degrees)
+    × (v.o ≤ 257 * v.k) × (length v.value-items ≡ g.row.N)

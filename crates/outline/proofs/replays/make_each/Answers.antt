@@ -2,8 +2,8 @@ use Rattle.std.proofs.Common.{◌≡◌, ◌<◌, ◌≤◌, length, get_or, tak
 use lib.Ieee.{nan}
 use Rattle.std.proofs.lemmas.List.{length-take}
 use Rattle.history.specs.declared.Call.TheVariants.{Add}
-use Rattle.history.specs.Calls.{Done, done_of}
-use Rattle.outline.proofs.Replaying.{same_done, read_call, going_more, end_stations, end_edits, end_answers}
+use Rattle.history.specs.Calls.{left, done_of}
+use Rattle.outline.proofs.Replaying.{read_call, going_more, all_made}
 use Rattle.outline.proofs.replays.make_each.Goals as goal
 
 pub loop-i-preserved : goal.loop-i-preserved
@@ -19,11 +19,10 @@ loop-i-preserved g c =
     let front : i < length (take n c.args.calls.now) = omega (arith, c.min-made.ensures, length-take n c.args.calls.now) in
     let slot : i < length c.loop-i.answers = omega (arith, c.min-made.ensures, c.loop-i.auto.answers) in
     let call = get_or c.args.calls.now i (Add nan nan) in
-    let done : Done = record { answer = c.make.result; frame = c.make.new.self.frame; stations = c.make.new.stations; edits = c.make.new.edits } in (
+    let done = left c.make.result c.make.new.self.frame c.make.new.stations c.make.new.edits in (
       c.make.ensures.surface ∙ c.loop-i.invariant.0,
       going_more edge whole (take n c.args.calls.now) n c.args.outline.now.frame c.args.stations.now c.args.edits.now c.args.answers.now f stations edits c.loop-i.answers i c.loop-i.invariant.1 call (read_call c.args.calls.now n i (Add nan nan) c.loop-i-test.true more) front done
-          (same_done done (done_of (g.S.Surface.edges c.loop-i.outline.surface) (g.S.Surface.whole c.loop-i.outline.surface) f stations edits call) c.make.ensures.answer c.make.ensures.frame c.make.ensures.stations c.make.ensures.edits
-          ∙ ap (λ s. done_of (g.S.Surface.edges s) (g.S.Surface.whole s) f stations edits call) c.loop-i.invariant.0) slot c.loop-i-test.true,
+          (c.make.ensures.left ∙ ap (λ s. done_of (g.S.Surface.edges s) (g.S.Surface.whole s) f stations edits call) c.loop-i.invariant.0) slot c.loop-i-test.true,
     )
 
 pub returns : goal.returns
@@ -37,7 +36,5 @@ returns g c =
     let none : length calls ≤ i = omega (arith, length-take n c.args.calls.now) in
     record {
       made = c.min-made.ensures;
-      stations = end_stations edge whole calls n c.args.outline.now.frame c.args.stations.now c.args.edits.now c.args.answers.now c.loop-i.outline.frame c.loop-i.stations c.loop-i.edits c.loop-i.answers i c.loop-i.invariant.1 all none;
-      edits = end_edits edge whole calls n c.args.outline.now.frame c.args.stations.now c.args.edits.now c.args.answers.now c.loop-i.outline.frame c.loop-i.stations c.loop-i.edits c.loop-i.answers i c.loop-i.invariant.1 all none;
-      answers = end_answers edge whole calls n c.args.outline.now.frame c.args.stations.now c.args.edits.now c.args.answers.now c.loop-i.outline.frame c.loop-i.stations c.loop-i.edits c.loop-i.answers i c.loop-i.invariant.1 all none;
+      left = all_made edge whole calls n c.args.outline.now.frame c.args.stations.now c.args.edits.now c.args.answers.now c.loop-i.outline.frame c.loop-i.stations c.loop-i.edits c.loop-i.answers i c.loop-i.invariant.1 all none;
     }

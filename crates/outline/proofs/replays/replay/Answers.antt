@@ -3,7 +3,7 @@ use Rattle.std.proofs.Common.{◌≡◌, ◌≤◌, ◌++◌, length, take, drop
 use Rattle.std.proofs.lemmas.Result.{err_from_is_err_and, IfOk-from_err}
 use Rattle.history.specs.declared.Frame.{Frame}
 use Rattle.history.specs.Calls.{open_refusal, opened}
-use Rattle.history.specs.Replays.{Replay, Ran, ran, calls_made}
+use Rattle.history.specs.Replays.{Replay, Ran, ran, replayed, replay_from}
 use Rattle.history.proofs.Replaying.{replay_refused, replay_granted, replay_law}
 use Rattle.outline.proofs.replays.replay.Goals as goal
 
@@ -14,10 +14,7 @@ returns-in_err-outline g c =
     let is : c.from_residual.result ≡ Err e = p.1 ∙ ap Err p.2 in
     let q = replay_refused (g.S.Surface.edges c.args.surface) (g.S.Surface.whole c.args.surface) c.args.winding c.args.stations.now c.args.edits.now c.args.calls.now c.args.answers.now e (sym c.in_err-outline.ensures.answer) in
     record {
-      answer = is ∙ sym (ap (λ (r : Replay). r.answer) q);
-      stations = sym (ap (λ (r : Replay). r.stations) q);
-      edits = sym (ap (λ (r : Replay). r.edits) q);
-      answers = sym (ap (λ (r : Replay). r.answers) q);
+      left = ap (λ r. replayed r c.args.stations.now c.args.edits.now c.args.answers.now) is ∙ sym q;
       law = IfOk-from_err c.from_residual.result _ c.from_residual.ensures.0;
     }
 
@@ -31,20 +28,16 @@ returns g c =
     let answers = c.args.answers.now in
     let outline = c.in_ok-outline.outline in
     let n = c.make_each.result in
-    let made = calls_made calls answers in
     let new = opened c.args.winding (length stations) (length edits) in
     let granted : open_refusal (length stations) (length edits) ≡ None = sym c.in_ok-outline.ensures.answer in
     let is : ran (g.S.Surface.edges outline.surface) (g.S.Surface.whole outline.surface) outline.frame stations edits (take n calls) ≡ ran edge whole new stations edits (take n calls) =
     ap (λ s. ran (g.S.Surface.edges s) (g.S.Surface.whole s) outline.frame stations edits (take n calls)) c.in_ok-outline.ensures.surface ∙ ap (λ (f : Frame). ran edge whole f stations edits (take n calls)) c.in_ok-outline.ensures.frame in
-    let many : ran edge whole new stations edits (take n calls) ≡ ran edge whole new stations edits (take made calls) = ap (λ k. ran edge whole new stations edits (take k calls)) c.make_each.ensures.made in
     let q = replay_granted edge whole c.args.winding stations edits calls answers granted in
-    let told : c.make_each.new.answers ≡ (ran edge whole new stations edits (take n calls)).answers ++ drop n answers =
-    c.make_each.ensures.answers ∙ ap (λ (r : Ran). r.answers ++ drop n answers) is in
+    let left : replayed (Ok n) c.make_each.new.stations c.make_each.new.edits c.make_each.new.answers ≡ replay_from None (ran edge whole new stations edits (take n calls)) n stations edits answers =
+    c.make_each.ensures.left ∙ ap (λ (r : Ran). replay_from None r n stations edits answers) is in
+    let told : c.make_each.new.answers ≡ (ran edge whole new stations edits (take n calls)).answers ++ drop n answers = ap (λ (r : Replay). r.answers) left in
     let few : n ≤ length calls = omega (arith, c.make_each.ensures.made) in
     record {
-      answer = ap Ok c.make_each.ensures.made ∙ sym (ap (λ (r : Replay). r.answer) q);
-      stations = c.make_each.ensures.stations ∙ ap (λ (r : Ran). r.stations) (is ∙ many) ∙ sym (ap (λ (r : Replay). r.stations) q);
-      edits = c.make_each.ensures.edits ∙ ap (λ (r : Ran). r.edits) (is ∙ many) ∙ sym (ap (λ (r : Replay). r.edits) q);
-      answers = told ∙ ap (λ (r : Ran). r.answers ++ drop n answers) many ∙ ap (λ k. (ran edge whole new stations edits (take made calls)).answers ++ drop k answers) c.make_each.ensures.made ∙ sym (ap (λ (r : Replay). r.answers) q);
+      left = left ∙ ap (λ k. replay_from None (ran edge whole new stations edits (take k calls)) k stations edits answers) c.make_each.ensures.made ∙ sym q;
       law = replay_law edge whole c.args.winding stations edits calls n c.make_each.new.answers (drop n answers) granted few told;
     }

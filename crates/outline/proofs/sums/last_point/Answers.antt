@@ -1,14 +1,6 @@
-use Rattle.std.proofs.Common.{◌<◌, length, sym, ◌∙◌, arith, eqb-true}
-use borrow.Author.Tests.{eqb-false}
-use Rattle.outline.proofs.Summing.{last_none, last_some}
+use Rattle.outline.proofs.Summing.{last_lem}
 use Rattle.outline.proofs.sums.last_point.Goals as goal
-
-pub returns-then-is_empty : goal.returns-then-is_empty
-returns-then-is_empty c =
-    sym (last_none c.args.row.now (eqb-true (length c.args.row.now) 0 (sym c.is_empty.ensures ∙ c.if-is_empty.true)))
 
 pub returns : goal.returns
 returns c =
-    let some = eqb-false (length c.args.row.now) 0 (sym c.is_empty.ensures ∙ c.if-is_empty.false) in
-    let above : 0 < length c.args.row.now = omega (arith, some) in
-    c.point.ensures ∙ sym (last_some c.args.row.now above)
+    last_lem c.args.row.now c.last.result c.default.result c.map_or.result c.last.ensures.value (record { none = c.default.ensures; point = c.map_or.ensures })

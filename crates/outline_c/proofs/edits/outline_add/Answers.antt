@@ -1,46 +1,21 @@
--- What the call on the outline that is taken up answers and leaves is what is told; otherwise everything stays.
-use Rattle.std.proofs.Common.{◌≡◌, sym, refl, ap, ◌∙◌}
+-- What the edit on the outline that is kept answers and leaves is what is told.
+use Rattle.std.proofs.Common.{rules}
+use Rattle.polygon.specs.Polygons.{Solve}
 use Rattle.history.specs.declared.Frame.{Frame}
-use Rattle.history.specs.Calls.{add_of}
-use Rattle.outline_c.specs.Grounds.{edges_on}
-use Rattle.outline_c.specs.Exports.{Left, answer_code, written, kept_with}
-use Rattle.outline_c.proofs.Leaving.{add_done, add_fault, add_stays, stayed}
+use Rattle.history.specs.Calls.{After, add_of}
+use Rattle.outline_c.specs.Grounds.{edges_of}
+use Rattle.outline_c.specs.Kept.{frame_of}
+use Rattle.outline_c.specs.Exports.{add_left}
+use Rattle.outline_c.proofs.Leaving.{leaves, stayed, add_stays}
 use Rattle.outline_c.proofs.edits.outline_add.Goals as goal
 
-pub returns-in-Err : goal.returns-in-Err
-returns-in-Err c =
-    let e = add_fault c.args.kept.now c.args.stations.now c.args.edits.now c.args.cost.now c.in-Err.fault c.in-Err.ensures c.args.lat c.args.lon in
-    record {
-      code = c.code.ensures ∙ sym (ap (λ (l : Left). l.code) e);
-      kept = sym (ap (λ (l : Left). l.kept) e);
-      stations = sym (ap (λ (l : Left). l.stations) e);
-      edits = sym (ap (λ (l : Left). l.edits) e);
-      cost = sym (ap (λ (l : Left). l.cost) e);
-      refused = λ faulty. record { kept = refl; stations = refl; edits = refl; cost = refl };
-    }
-
 pub returns : goal.returns
+unfolding add_left
 returns c =
     let k = c.args.kept.now in
-    let g = c.in-Ok.outline.surface in
-    let f = c.in-Ok.outline.frame in
-    let up = c.in-Ok.ensures in
-    let a = add_of (edges_on g) f c.args.stations.now c.args.edits.now c.args.lat c.args.lon in
-    let e = add_done k c.args.stations.now c.args.edits.now c.args.cost.now g f up c.args.lat c.args.lon in
-    let code : c.tell_cost.result ≡ answer_code a.answer = c.tell_cost.ensures.code ∙ ap answer_code c.add-answer.ensures.answer in
-    let left = ap (λ (x : Frame). kept_with k x.counts) (c.frame.ensures ∙ c.add-answer.ensures.frame) in
-    let cost = c.tell_cost.ensures.cost ∙ ap (written c.args.cost.now) c.add-answer.ensures.answer in
-    let stay = λ (faulty : c.tell_cost.result ≡ 0 → ⊥). stayed k c.args.stations.now c.args.edits.now c.args.cost.now g f up a (add_stays f c.args.stations.now c.args.edits.now (edges_on g) c.args.lat c.args.lon) (λ z. faulty (code ∙ z)) in
+    let call : Solve → Frame → After = λ edge f. add_of edge f c.args.stations.now c.args.edits.now c.args.lat c.args.lon in
+    let left = leaves k c.args.stations.now c.args.edits.now call c.args.cost.now c.edited.result _ _ _ _ _ (λ none. let d = c.edited.ensures.done none in record { on = d.outline.surface; frame = d.outline.frame; up = d.up; told = search rules; kept = search rules; row = search rules; records = search rules }) (λ e is. record { told = search rules; kept = search rules; row = search rules; records = search rules }) c.tell.ensures.code c.tell.ensures.kept in
     record {
-      code = code ∙ sym (ap (λ (l : Left). l.code) e);
-      kept = left ∙ sym (ap (λ (l : Left). l.kept) e);
-      stations = c.add-answer.ensures.stations ∙ sym (ap (λ (l : Left). l.stations) e);
-      edits = c.add-answer.ensures.edits ∙ sym (ap (λ (l : Left). l.edits) e);
-      cost = cost ∙ sym (ap (λ (l : Left). l.cost) e);
-      refused = λ faulty. record {
-        kept = left ∙ (stay faulty).kept;
-        stations = c.add-answer.ensures.stations ∙ (stay faulty).stations;
-        edits = c.add-answer.ensures.edits ∙ (stay faulty).edits;
-        cost = cost ∙ (stay faulty).cost;
-      };
+      left = left;
+      refused = stayed k c.args.stations.now c.args.edits.now call c.args.cost.now c.edited.result _ _ _ _ _ (add_stays (frame_of k) c.args.stations.now c.args.edits.now (edges_of k.surface k.scale) c.args.lat c.args.lon) left;
     }

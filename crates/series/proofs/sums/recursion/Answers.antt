@@ -1,27 +1,26 @@
--- Each turn takes the two coefficients before those done.
-use Rattle.std.proofs.Common.{◌-◌, ◌*◌, ◌/◌, length, sym, ap, ◌∙◌}
+-- The fold over the pairs is the recursion.
+use Rattle.std.proofs.Common.{◌≡◌, ◌*◌, ◌/◌, length, get_or, reverse, refl, ap, ◌∙◌, rules}
 use lib.Ieee.{Float}
+use Rattle.std.proofs.lemmas.Iterator.Adapters.{YieldsList-from_rev_slice}
+use Rattle.std.proofs.lemmas.Iterator.Consumers.{fold_from_yields_List}
+use Rattle.std.proofs.lemmas.List.{get_or-drop}
+use Rattle.std.specs.List.{fold}
 use Rattle.geomath.specs.Angles.{zero}
-use Rattle.series.specs.Clenshaw.{Tail}
-use Rattle.series.proofs.Recursion.{starts_even, starts_odd, turns, pair_before, pairs_all, pairs_but_one, taken_all}
+use Rattle.series.specs.Clenshaw.{clenshaw}
+use Rattle.series.proofs.Recursion.{turn, folded}
 use Rattle.series.proofs.sums.recursion.Goals as goal
-use Rattle.series.proofs.sums.recursion.Goals.{then-terms-eq1, else-terms-eq1}
 
-pub loop-i-init : goal.loop-i-init
-loop-i-init c =
-    let cs = c.args.terms.now in
-    elim c.if-terms-eq1.branch [
-      | then-terms-eq1 w ↦ starts_odd c.args.ar cs (2 * (length cs / 2)) (pairs_but_one (length cs) w.if-terms-eq1.true) ∙ ap (λ (y : Float). record { y0 = y; y1 = zero }) (sym w.y0-is)
-      | else-terms-eq1 w ↦ starts_even c.args.ar cs (2 * (length cs / 2)) (pairs_all (length cs) w.if-terms-eq1.false) ∙ ap (λ (y : Float). record { y0 = y; y1 = zero }) (sym w.y0-is)
-    ]
+by_pairs : (c : goal.After-fold) → c.fold.result ≡ fold (turn c.args.ar) (c.unwrap_or-start.result, zero) (reverse c.as_chunks.result.0.now)
+by_pairs c = fold_from_yields_List _ (turn c.args.ar) _ _ c.fold.ensures.ran (YieldsList-from_rev_slice c.as_chunks.result.0.now (search rules)) (λ a x b q k. search rules)
 
-pub loop-i-preserved : goal.loop-i-preserved
-loop-i-preserved c =
-    let cs = c.args.terms.now in
-    let at = pair_before c.loop-i.i (length cs) c.loop-i-test.true c.loop-i.auto.i in
-    turns c.args.ar cs (2 * (c.loop-i.i - 1)) (2 * c.loop-i.i) (record { y0 = c.loop-i.y0; y1 = c.loop-i.y1 }) at.0 at.1 c.loop-i.invariant
+starts : (c : goal.After-fold) → c.unwrap_or-start.result ≡ get_or c.args.terms.now (length c.args.terms.now / 2 * 2) zero
+starts c = search (rules, get_or-drop)
+
+value_is : (c : goal.After-fold) → c.fold.result ≡ ((clenshaw c.args.ar c.args.terms.now).y0, (clenshaw c.args.ar c.args.terms.now).y1)
+value_is c =
+    by_pairs c
+    ∙ ap (λ ps. fold (turn c.args.ar) (c.unwrap_or-start.result, zero) (reverse ps)) c.as_chunks.ensures.front
+    ∙ folded c.args.ar c.unwrap_or-start.result (length c.args.terms.now / 2) c.args.terms.now refl (starts c)
 
 pub returns : goal.returns
-returns c =
-    let all = taken_all c.args.ar c.args.terms.now c.loop-i.i (record { y0 = c.loop-i.y0; y1 = c.loop-i.y1 }) c.loop-i-test.false c.loop-i.invariant in
-    record { last = ap (λ (y : Tail). y.y0) all; before = ap (λ (y : Tail). y.y1) all }
+returns c = record { last = ap (λ (y : Float × Float). y.0) (value_is c); before = ap (λ (y : Float × Float). y.1) (value_is c) }

@@ -1,8 +1,9 @@
--- What the table lacks of a row is not read.
-use Rattle.std.proofs.Common.{arith}
-use Rattle.series.proofs.Rows.{divisor_short}
+-- The number behind a row is the next one in what is left after the row's first m.
+use Rattle.std.proofs.Common.{rules}
+use Rattle.std.proofs.lemmas.List.{get_or-drop}
+use lib.Ieee.{of_bits}
 use Rattle.series.proofs.tables.divisor.Goals as goal
 
-pub returns-else-m-saturating_sub : goal.returns-else-m-saturating_sub
-returns-else-m-saturating_sub c =
-    divisor_short c.args.table.now c.rest_from-rest.result.now c.args.at c.args.m c.rest_from-rest.ensures (omega arith)
+pub returns : goal.returns
+unfolding of_bits
+returns c = search (rules, get_or-drop)

@@ -1,10 +1,9 @@
--- Opening is refused where a row is too long; the examples of the definitions are shown by computation.
-use Rattle.std.proofs.Common.{rules}
+-- The examples of the definitions are shown by computation.
 use Rattle.outline.proofs.Examples.{all_examples}
 use Rattle.outline.proofs.outlines.Outline.open.Goals as goal
 
-pub returns-then-stations-gt-MOST_STATIONS : goal.returns-then-stations-gt-MOST_STATIONS
-returns-then-stations-gt-MOST_STATIONS g c = record { answer = search rules; surface = search rules; frame = search rules; examples = all_examples }
+pub returns-in_default-clause-examples : goal.returns-in_default-clause-examples
+returns-in_default-clause-examples g c = all_examples
 
-pub returns : goal.returns
-returns g c = record { answer = search rules; surface = search rules; frame = search rules; examples = all_examples }
+pub returns-clause-examples : goal.returns-clause-examples
+returns-clause-examples g c = all_examples
