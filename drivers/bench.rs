@@ -5,16 +5,8 @@ mod floats;
 mod knobs;
 mod outline;
 mod pairs;
+mod rs;
 mod sets;
-
-// the crate's code over the series set
-pub mod rs {
-    pub mod el { pub use crate::sets::Series as El; }
-    pub mod caps { include!("reference/caps.rs"); }
-    pub mod geomath { include!("reference/geomath.rs"); }
-    pub mod geodesic { include!("reference/geodesic.rs"); }
-    pub mod polygon_area { include!("reference/polygon_area.rs"); }
-}
 
 use outline::{Sheet, COUNTERCLOCKWISE, POLYGON};
 use pairs::{Dice, Pair};

@@ -6,16 +6,8 @@ mod knobs;
 mod model;
 mod outline;
 mod pairs;
+mod rs;
 mod sets;
-
-// the crate's code over the series set
-pub mod rs {
-    pub mod el { pub use crate::sets::Series as El; }
-    pub mod caps { include!("reference/caps.rs"); }
-    pub mod geomath { include!("reference/geomath.rs"); }
-    pub mod geodesic { include!("reference/geodesic.rs"); }
-    pub mod polygon_area { include!("reference/polygon_area.rs"); }
-}
 
 use model::{accepted, fresh, Book, Call, Ground, Point};
 use outline::{EditRecord, Fault, Geodesic as Solved, Outline, Sheet, Station};
