@@ -3,7 +3,7 @@
 use history::Call;
 
 // A linear congruential generator.
-#[derive(Drop, PartialEq, Eq, Hash, Debug)]
+#[derive(Clone, Copy, PartialEq, Eq, Hash, Debug)]
 pub struct Chance {
     state: u64,
 }

@@ -77,11 +77,16 @@ fn make_on(
 pub struct Desk {
     // What `outline.surface` holds, which an outline does not hand out.
     surface: Ground,
+    // As given at opening, and not as the outline tells them: the book is kept beside it.
+    winding: Winding,
+    lengths: Sizes,
     outline: Outline<Ground>,
     stations: Vec<Station>,
     edits: Vec<EditRecord>,
     notebook: Notebook,
     ghost same_surface: { outline.surface ≡ surface },
+    ghost same_winding: { outline.frame.winding ≡ winding },
+    ghost same_lengths: { outline.frame.lengths ≡ lengths },
 }
 
 impl Desk {
@@ -105,6 +110,8 @@ impl Desk {
         let edit_row = vec![in heap; EditRecord::added(0); edits as usize + 1]?;
         Ok(Desk {
             surface,
+            winding,
+            lengths,
             outline,
             stations: station_row,
             edits: edit_row,
@@ -116,7 +123,7 @@ impl Desk {
     pub fn lengths(&self) -> Sizes
         ensures { result ≡ self.now.outline.frame.lengths }
     {
-        self.outline.frame().lengths
+        self.lengths
     }
 
     // The points that stand, as the notebook has them.
@@ -158,8 +165,7 @@ impl Desk {
     pub fn anew(&self, sign: bool) -> Result<Figures, Refusal>
         ensures { IfOk result (λ f. f ≡ figures_of (edges_on self.now.surface) (whole_on self.now.surface) self.now.outline.frame.winding sign (book_of self.now.notebook).standing) }
     {
-        let winding = self.outline.frame().winding;
-        fresh_figures(self.surface, winding, sign, self.standing())
+        fresh_figures(self.surface, self.winding, sign, self.standing())
     }
 }
 

@@ -13,8 +13,8 @@ use std::error::Error;
 use std::fmt;
 use std::str::FromStr;
 use text::split_word;
-use words::is_blank;
 pub use words::{is_remark, numbers, row};
+use words::{is_blank, is_silent};
 
 // A line, or its first word, that is no call.
 #[derive(Clone, Copy, Debug, PartialEq, Eq, Hash)]
@@ -33,7 +33,7 @@ impl fmt::Display for NotACall {
 impl Error for NotACall {}
 
 #[derive(Clone, Copy, Debug, PartialEq, Eq, Hash)]
-enum Verb {
+pub enum Verb {
     Add,
     Move,
     Drop,
@@ -129,10 +129,10 @@ fn call_of(verb: Verb, words: &str) -> Option<Call>
 pub fn read(line: &str) -> Result<Option<Call>, NotACall>
     ensures { Says line.now result }
 {
-    if is_remark(line) {
+    let (verb, words) = split_word(line);
+    if is_silent(verb) {
         return Ok(None);
     }
-    let (verb, words) = split_word(line);
     let call = call_of(verb.parse()?, words).ok_or(NotACall)?;
     Ok(Some(call))
 }

@@ -7,12 +7,19 @@ ghost use Rattle.script.specs.Rows.{SaysRow};
 
 use text::{decimal, split_word};
 
+// Whether nothing is left, or what is left begins with #.
+pub(crate) fn is_silent(rest: &str) -> bool
+    ensures { result ≡ silent rest.now }
+{
+    matches!(rest.as_bytes(), [] | [b'#', ..])
+}
+
 // Whether a line is blank or begins with #.
 pub fn is_remark(line: &str) -> bool
     ensures { result ≡ silent (first_word line.now) }
 {
     let (word, _) = split_word(line);
-    matches!(word.as_bytes(), [] | [b'#', ..])
+    is_silent(word)
 }
 
 // Whether no word is left.
@@ -43,9 +50,11 @@ pub fn numbers<const N: usize>(words: &str) -> Option<[f64; N]>
 pub fn row<const N: usize, F: Copy>(line: &str, fault: F) -> Result<Option<[f64; N]>, F>
     ensures { SaysRow N fault line.now result }
 {
-    if is_remark(line) {
+    // From the first word on, so that what stands before it is passed once.
+    let words = line.trim_ascii_start();
+    if is_silent(words) {
         return Ok(None);
     }
-    let row = numbers::<N>(line).ok_or(fault)?;
+    let row = numbers::<N>(words).ok_or(fault)?;
     Ok(Some(row))
 }

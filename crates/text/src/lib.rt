@@ -75,8 +75,7 @@ fn digit_char(digit: u8) -> u8
     }
 }
 
-// The bit pattern of x as sixteen hexadecimal digits, the most significant first. The clause of no
-// Display could say that they are read back as x.
+// The bit pattern of x as sixteen hexadecimal digits, the most significant first.
 pub fn pattern_digits(x: f64) -> [u8; 16]
     ensures digits { result ≡ pattern_digits x }
     ensures reads_back { pattern_of result ≡ Some x }
@@ -118,14 +117,15 @@ pub fn pattern_of(text: &str) -> Option<f64>
     number_of(text.as_bytes()).map(|bits| f64_from_bits_with_nan(bits))
 }
 
-// The bit pattern of a float; a NaN has the one pattern.
+// The bit pattern of a float; a NaN has the one pattern. The digits that its Display writes are read
+// back as that float.
 #[derive(Clone, Copy, PartialEq, Eq, Debug, Hash)]
 pub struct Pattern {
     pub bits: u64,
 }
 
 impl From<f64> for Pattern {
-    ghost from_gives = { λ x p. p.bits ≡ to_bits binary64 x };
+    ghost from_gives = { λ x p. (p.bits ≡ to_bits binary64 x) × (pattern_of (hex_digits 16 p.bits) ≡ Some x) };
 
     fn from(x: f64) -> Pattern {
         Pattern {

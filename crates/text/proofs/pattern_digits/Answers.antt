@@ -5,7 +5,7 @@ use Rattle.text.proofs.Digits.{hex_digits-none, hex_digits_more, pattern_back}
 use Rattle.text.proofs.pattern_digits.Goals as goal
 
 pub loop-i-init : goal.loop-i-init
-loop-i-init c = (append-nil (hex_digits 16 _) ∙ ap (hex_digits 16) c.from-rest.ensures, refl)
+loop-i-init c = (append-nil (hex_digits 16 _) ∙ ap (hex_digits 16) c.from-rest.ensures.0, refl)
 
 pub loop-i-preserved : goal.loop-i-preserved
 loop-i-preserved c =
