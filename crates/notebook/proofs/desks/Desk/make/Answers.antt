@@ -1,10 +1,10 @@
 -- The outline keeps its surface, its winding and the lengths of its rows over a call.
-use Rattle.std.proofs.Common.{◌≡◌, ap, ◌∙◌, rules, subst}
+use Rattle.std.proofs.Common.{ap, ◌∙◌}
 use Rattle.earth.specs.Grounds.{edges_on, whole_on}
 use Rattle.history.specs.declared.Frame.{Frame}
 use Rattle.history.specs.Calls.{Outcome}
 use Rattle.notebook.specs.Desks.{front}
-use Rattle.notebook.proofs.Frames.{Keeps, frame_kept}
+use Rattle.notebook.proofs.Frames.{frame_kept}
 use Rattle.notebook.proofs.desks.Desk.make.Goals as goal
 
 pub invariant_of-self : goal.invariant_of-self
