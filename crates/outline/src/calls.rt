@@ -12,10 +12,10 @@ ghost use Rattle.outline.specs.WholeRule.{WholeRule};
 
 use crate::outlines::Outline;
 use crate::sums::traverse_over;
-use area::Winding;
+use area::{Winding, reduce_area};
 use geomath::accepted;
 use history::{Frame, Measurement, Sizes};
-use polygon::Point;
+use polygon::{Figures, Point, transit};
 use stations::{Cost, EditKind, EditRecord, Station, note, place_point, remove_point, shift_point};
 use surface::{Refusal, Surface};
 
@@ -258,13 +258,28 @@ impl<S: Surface> Outline<S> {
         requires { length row.now ≤ 65535 }
         ensures { result ≡ measured (S.edges self.now.surface) (S.whole self.now.surface) self.now.frame.winding sign row.now }
     {
+        // Written out, and not the polygon's `closed`: a polygon that an outline is compared with shares
+        // none of this.
         let traverse = traverse_over(row);
-        let (figures, evaluations) = traverse.closed(&self.surface, self.frame.winding, sign);
+        let (last, first) = (traverse.latest, traverse.initial);
+        let edge = self.surface.edge(last.lat, last.lon, first.lat, first.lon);
+        let crossings = traverse.crossings + transit(last.lon, first.lon);
+        let area = reduce_area(
+            self.surface.area(),
+            traverse.areasum + edge.S12,
+            crossings,
+            self.frame.winding,
+            sign,
+        );
         Measurement {
-            figures,
+            figures: Figures {
+                perimeter: traverse.perimetersum + edge.s12,
+                area,
+                count: traverse.num,
+            },
             cost: Cost {
                 edges: 1,
-                evaluations: evaluations as u32,
+                evaluations: edge.evaluations as u32,
             },
         }
     }

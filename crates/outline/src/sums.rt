@@ -1,5 +1,5 @@
 // A traverse over the stations of a row, and its first and last point.
-ghost use Rattle.std.specs.Prelude.{◌≡◌, ◌+◌, ◌≤◌, map, length, unsigned_abs};
+ghost use Rattle.std.specs.Prelude.{◌≡◌, ◌+◌, ◌*◌, ◌≤◌, map, length, unsigned_abs};
 ghost use Rattle.polygon.specs.Polygons.{first_of, last_of};
 ghost use Rattle.stations.specs.Stations.{point_of};
 ghost use Rattle.history.specs.Calls.{traverse_of};
@@ -25,7 +25,8 @@ fn with(traverse: Traverse, station: &Station) -> Traverse
 // What a traverse keeps of the stations of a row, its sums from 0.0 and 0, in the row's order.
 pub(crate) fn traverse_over(row: &[Station]) -> Traverse
     requires { length row.now ≤ 65535 }
-    ensures { result ≡ traverse_of row.now }
+    ensures value { result ≡ traverse_of row.now }
+    ensures few { unsigned_abs result.crossings ≤ 128 * length row.now }
 {
     let mut traverse = Traverse {
         num: row.len() as u32,

@@ -10,8 +10,8 @@ loop-station-preserved c =
       omega (arith, c.with-traverse.ensures.few, c.loop-station.invariant.1),
     )
 
-pub returns : goal.returns
-returns c =
+pub returns-clause-value : goal.returns-clause-value
+returns-clause-value c =
     let row = c.args.row.now in
     let i = c.loop-station.station-index in
     let ended : length row ≤ i = omega arith in
